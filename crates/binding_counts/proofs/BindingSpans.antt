@@ -1,5 +1,5 @@
 -- States and operations by where they stand among the nodes: their faults by the counts of their groups, and a walk over the operations.
-use mathlib.Core.Path.{◌≡◌, refl, ap, ap₂, sym, ◌∙◌, subst}
+use mathlib.Core.Path.{◌≡◌, ap, ap₂, sym, ◌∙◌, subst}
 use mathlib.Core.Bool.{Bool, true, false, ◌&&◌}
 use mathlib.Core.List.{List, [], ◌∷◌}
 use Prim.Native.Nat.{ℕ, suc, ◌+◌, ◌-◌, ◌*◌, ◌≤◌, ◌<◌, min}
@@ -14,7 +14,7 @@ use Rattle.form.specs.Codes.{Numbering}
 use Rattle.type_rules.specs.TypesByNumber.{Names, Sizes, key, unless_key, lesser}
 use Rattle.names.specs.DeclaredNamesNamesByNumber.{Typed, variables_of, parameters_of, typed_codes}
 use Rattle.names.specs.DeclaredNamesPassPromises.{PartOf}
-use Rattle.names.proofs.TypesAgreeLeast.{lesser-zero, lesser-assoc}
+use Rattle.names.proofs.TypesAgreeLeast.{lesser-zero, lesser-assoc, zero-lesser}
 use Rattle.names.proofs.PassSteps.{variables-codes, parameters-codes}
 use Rattle.node_spans.specs.Spans.{Stands, span, HeadingAt, OperationsAt, one_more}
 use Rattle.binding_counts.specs.BindingsByNumber.{typed_count, state_over, operation_over, operations_over, GroupCounted, HeadingFaulted, StateBound, OperationBound, OperationsBound}
@@ -22,7 +22,7 @@ use Rattle.binding_counts.proofs.CappedCounts.{cap-leb}
 
 -- ---- the heading ----
 
-never : (n m : ℕ) → n ≤ m → m < n → ⊥
+pub never : (n m : ℕ) → n ≤ m → m < n → ⊥
 never n m h k = omega arith
 
 module _ (nodes : List ℕ) (from : ℕ) (ok : Bool) where
@@ -40,7 +40,7 @@ module _ (nodes : List ℕ) (from : ℕ) (ok : Bool) where
 
 -- ---- a group ----
 
-part-stands : (nodes : List ℕ) (f t from to : ℕ) (code codes : List ℕ) → from ≡ f → to ≡ t → PartOf nodes from to code → Stands nodes f t codes → code ≡ codes
+pub part-stands : (nodes : List ℕ) (f t from to : ℕ) (code codes : List ℕ) → from ≡ f → to ≡ t → PartOf nodes from to code → Stands nodes f t codes → code ≡ codes
 part-stands nodes f t from to code codes p q h s =
     (subst (λ (y : ℕ). PartOf nodes f y code) q (subst (λ (x : ℕ). PartOf nodes x to code) p h)).part s.ordered s.inside ∙ s.stands
 
@@ -80,10 +80,6 @@ pub record Remaining (nodes spans : List ℕ) (T : Names) (z : Sizes) (n k f : �
 abbrev pub Remains : (nodes spans : List ℕ) (T : Names) (z : Sizes) (n k f : ℕ) → Type 0
 Remains nodes spans T z n k f =
     (os : List Operation) (i : ℕ) (ρ : Numbering) → n ≡ length os → OperationsAt nodes spans ρ 0 i os → Remaining nodes spans T z n k f ρ (operations_over os T ρ z i)
-
-zero-lesser : (b : ℕ) → lesser 0 b ≡ b
-unfolding lesser
-zero-lesser b = refl
 
 module _ (nodes spans : List ℕ) (T : Names) (z : Sizes) (n : ℕ) where
   pub remains-start : Remains nodes spans T z n 0 0

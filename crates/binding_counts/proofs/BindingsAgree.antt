@@ -17,7 +17,7 @@ use Rattle.form.specs.Tree.{Letters, Range, Arrow, relation, partial, total, Typ
 use Rattle.form.specs.Written.{ending_of}
 use Rattle.form.specs.Headings.{abstract_at, concrete_at, operations_at, operation_length}
 use Rattle.form.specs.Codes.{Numbering, ending_number, number_of_name, name_number, end_number}
-use Rattle.static_rules.specs.Carriers.{Carrier, elements_of, subsets_of, pairs_in, size_of, signed, end_value, range_carrier, arrow_count, count_of, given_of, carrier_of}
+use Rattle.static_rules.specs.Carriers.{Carrier, elements_of, subsets_of, pairs_in, size_of, end_value, range_carrier, arrow_count, count_of, given_of, carrier_of}
 use Rattle.static_rules.specs.Names.{end_length, range_fits, range_faults, known, pairs_fault, type_faults}
 use Rattle.static_rules.specs.Scope as scope
 use Rattle.static_rules.specs.Scope.{variables, is_input, is_output, unprimed, inputs, outputs}
@@ -32,18 +32,9 @@ use Rattle.refusals.proofs.FaultLists.{append_nil-both, unless-nil}
 use Rattle.static_rules.proofs.Faultless.{given-known}
 use Rattle.static_rules.proofs.FoundCarriers.{arrow-carrier, given-carrier, power-carrier}
 use Rattle.lexical.proofs.BooleanTests.{and_left}
+use Rattle.names.proofs.TypesAgreeRanges.{Stands, above, below, end-stands}
 
 -- ---- ranges ----
-
--- the number k stands for the integer z: it is z + 1,000
-data Stands : ℤ → ℕ → Type 0 where
-  above : {a k : ℕ} → k ≡ 1000 + a → Stands (pos a) k
-  below : {a k : ℕ} → k + suc a ≡ 1000 → Stands (negsuc a) k
-
-end-stands : (b : Bool) (m : ℕ) → m ≤ 1000 → Stands (signed b m) (cond b (1000 - m) (1000 + m))
-end-stands true zero h = above {a = 0} {k = 1000 - 0} (omega arith)
-end-stands true (suc m) h = below {a = m} {k = 1000 - suc m} (omega arith)
-end-stands false m h = above refl
 
 sub_abs : (a b : ℕ) → b ≤ a → nat_abs (sub_ℕ a b) ≡ a - b
 sub_abs a b h = ap (λ (t : Bool). nat_abs (cond t (negsuc (b - suc a)) (pos (a - b)))) (le-ltb a b h)

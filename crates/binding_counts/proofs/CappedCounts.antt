@@ -69,9 +69,6 @@ cap-factor c n f g m r e q =
     ap (cap c) first ∙ sym (cap-other c f g (n * m) e) ∙ ap (cap c) last ∙ sym (cap-step c (n * f) m) ∙ sym (ap (λ (k : ℕ). cap c (k * m)) q)
 
 -- the product of the code fits
-pub product-fits : (c n m : ℕ) → c ≤ 4096 → n ≤ c + 1 → m ≤ 65536 → n * m ≤ 268500992
-product-fits c n m h p q = mul-le-mul {n₁ = n} {m₁ = m} {n₂ = 4097} {m₂ = 65536} (omega arith) q
-
 pub squares-fit : (n m : ℕ) → n < 65536 → m < 65536 → n * m ≤ 4294836225
 squares-fit n m p q = mul-le-mul {n₁ = n} {m₁ = m} {n₂ = 65535} {m₂ = 65535} (omega arith) (omega arith)
 

@@ -30,15 +30,14 @@ struct Limit {
 
 // A product of counts; the limit and one for all above it.
 fn product(limit: Limit, n: u32, m: u32) -> u32
-    requires { (n ≤ limit.most + 1) × (m ≤ 65536) }
-    ensures { (result ≡ cap limit.most (n * m)) × (result ≤ limit.most + 1) }
+    ensures { result ≡ cap limit.most (n * m) }
 {
-    (n * m).min(limit.most + 1)
+    n.saturating_mul(m).min(limit.most + 1)
 }
 
 // A power, likewise.
 fn power(limit: Limit, b: u32, k: u32) -> u32
-    ensures { (result ≡ cap limit.most (b ^ k)) × (result ≤ limit.most + 1) }
+    ensures { result ≡ cap limit.most (b ^ k) }
 {
     b.saturating_pow(k).min(limit.most + 1)
 }
@@ -53,7 +52,7 @@ fn size_of(g: &Sets<'_>, x: u16) -> u32
 
 // How many numbers a range has.
 fn width(a: u16, b: u16) -> u32
-    ensures { (result ≡ b - a + 1) × (result ≤ 65536) }
+    ensures { result ≡ b - a + 1 }
 {
     u32::from(b.saturating_sub(a)) + 1
 }
@@ -64,7 +63,7 @@ const IN_OR_OUT: u32 = 2;
 // How many values a declared type has, by its node.
 fn type_count(t: &[u16], limit: Limit, g: &Sets<'_>) -> u32
     requires { length t.now ≡ 4 }
-    ensures { TypeCounted t.now 0 limit.most g.now.names.now g.now.sizes.now result × (result ≤ 65536) }
+    ensures { TypeCounted t.now 0 limit.most g.now.names.now g.now.sizes.now result }
 {
     let a = t[node::A];
     let b = t[0];
@@ -85,7 +84,7 @@ fn type_count(t: &[u16], limit: Limit, g: &Sets<'_>) -> u32
 // laws of nodes (`NodePieces`) and the promise of `group` speak of the list of their numbers: one law more that says of both walks that they are the same.
 fn factor(d: &[u16], ending: u16, limit: Limit, g: &Sets<'_>) -> u32
     requires { length d.now ≡ 8 }
-    ensures { FactorCounted d.now 0 ending limit.most g.now.names.now g.now.sizes.now result × (result ≤ 65536) }
+    ensures { FactorCounted d.now 0 ending limit.most g.now.names.now g.now.sizes.now result }
 {
     if d[node::A] % endings::COUNT == ending {
         // the type's node stands behind the name's
@@ -109,10 +108,8 @@ fn group(code: &[u16], ending: u16, limit: Limit, g: &Sets<'_>) -> u32
 fn heading_fault(nodes: &[u16], from: usize) -> Option<Fault>
     ensures { HeadingFaulted nodes.now from false (fault_key result) }
 {
-    if from < node::SIZE {
-        return None;
-    }
-    let place = usize::from(look(nodes, from - node::SIZE + node::PLACE));
+    let at = from.checked_sub(node::SIZE)?;
+    let place = usize::from(look(nodes, at + node::PLACE));
     Some(Fault {
         place,
         refusal: Refusal::ManyBindings,

@@ -12,6 +12,7 @@ use refusals::Refusal;
 use reports::{FIRST_LINE, refuted_line};
 use std::io;
 use std::io::Write;
+use text_places::before;
 
 // The most bytes of a script.
 const SCRIPT: usize = 65536;
@@ -19,20 +20,7 @@ const SCRIPT: usize = 65536;
 // The most bytes that a witness is lent here.
 const LENT: usize = 65536;
 
-const TEN: usize = 10;
-
-// The value of a digit.
-fn digit_of(b: u8) -> Option<usize> {
-    match b {
-        b'0'..=b'9' => Some(usize::from(b - b'0')),
-        _ => None,
-    }
-}
-
-// The first n bytes, or all where there are fewer.
-fn front(bytes: &[u8], n: usize) -> &[u8] {
-    &bytes[..n.min(bytes.len())]
-}
+const TEN: u32 = 10;
 
 // What is left of a script.
 #[derive(Drop)]
@@ -55,10 +43,12 @@ impl<'a> Script<'a> {
         ensures { length self.new.rest.now ≤ length self.old.rest.now }
     {
         let rest = self.rest;
-        let digits = || rest.iter().map_while(|b| digit_of(*b));
+        let digits = || rest.iter().map_while(|b| char::from(*b).to_digit(TEN));
         self.take(digits().count().saturating_add(1));
         digits().fold(0, |value: usize, digit| {
-            value.saturating_mul(TEN).saturating_add(digit)
+            value
+                .saturating_mul(TEN as usize)
+                .saturating_add(digit as usize)
         })
     }
 
@@ -116,9 +106,9 @@ impl<W: Write> Session<'_, W> {
     fn print_refuted(&mut self, o: Obligation) -> io::Result<()> {
         let mut line = [0u8; FIRST_LINE];
         let held: &[u8; HELD] = self.held;
-        let text = front(&held[TEXT..], length_in(held));
+        let text = before(&held[TEXT..], length_in(held));
         let n = refuted_line(text, o, &mut line);
-        self.print(front(&line, n))
+        self.print(before(&line, n))
     }
 
     fn verdict(&mut self) -> io::Result<()> {

@@ -1,9 +1,11 @@
 -- The bindings of a group of variables by the digits of their numbers, the last variable fastest. Assumes nothing.
 use mathlib.Core.Path.{◌≡◌, refl, sym, ap, ap₂, subst, ◌∙◌}
 use mathlib.Core.List.{List, [], ◌∷◌, map}
-use Prim.Native.Nat.{ℕ, ◌+◌, ◌*◌, ◌/◌, ◌%◌, ◌<◌}
+use Prim.Native.Nat.{ℕ, suc, ◌+◌, ◌*◌, ◌/◌, ◌%◌, ◌<◌, ◌≤◌}
 use native.Mathlib.Nat.{zero-lt-suc, mul_assoc, mul-add-div_right, mul-add-mod_self_right, mod-eq_of_lt, mod-lt, div-add-mod', div-lt_iff_lt-mul, mul-lt-mul_of_pos_right, zero-mul}
+use native.Mathlib.Decide.{dec_lt}
 use native.Mathlib.Omega.{arith}
+use Rattle.std.proofs.lemmas.List.{get_or_past}
 use lib.Arith.{digits_div}
 use lib.ListN.{length, get_or}
 use Rattle.lexical.specs.Lists.{upward}
@@ -56,6 +58,28 @@ bindings-count vs = ap length (bindings-are vs) ∙ map-length (binding_at vs) 0
 
 pub bindings-at : (vs : List Variable) (k : ℕ) (d : Binding) → k < binding_count vs → get_or (bindings vs) k d ≡ binding_at vs k
 bindings-at vs k d h = ap (λ (l : List Binding). get_or l k d) (bindings-are vs) ∙ map_get (binding_at vs) (binding_count vs) k d h
+
+-- ---- what is listed, and what is not
+
+digits_long : (vs : List Variable) (k : ℕ) → length (binding_at vs k) ≡ length vs
+unfolding binding_at
+digits_long [] k = refl
+digits_long (v ∷ vs) k = ap suc (digits_long vs k)
+
+-- a listed one has a value for each variable
+pub binding-long : (vs : List Variable) (k : ℕ) → k < binding_count vs → length (get_or (bindings vs) k []) ≡ length vs
+binding-long vs k h = ap length (bindings-at vs k [] h) ∙ digits_long vs k
+
+-- one that is not listed is empty
+pub beyond-empty : (vs : List Variable) (k : ℕ) → binding_count vs ≤ k → get_or (bindings vs) k [] ≡ []
+beyond-empty vs k h = get_or_past (bindings vs) k [] (subst (λ (n : ℕ). n ≤ k) (sym (bindings-count vs)) h)
+
+pub at-most : (vs : List Variable) (k : ℕ) → length (get_or (bindings vs) k []) ≤ length vs
+at-most vs k =
+    elim (dec_lt k (binding_count vs)) [
+      | yes h ↦ (let e = binding-long vs k h in omega arith)
+      | no h ↦ subst (λ (b : Binding). length b ≤ length vs) (sym (beyond-empty vs k (omega arith))) (omega arith)
+    ]
 
 -- ---- one to one
 

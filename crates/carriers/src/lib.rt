@@ -8,10 +8,12 @@ ghost use Rattle.carriers.specs.ValuesByNumber.{Room, choices, mask_at, partial_
 ghost use Rattle.carriers.specs.FunctionKinds.{least_of};
 
 // The k-th number of a range from a on.
+// No function of these crates calls it or `digit`: searches read a range's number from the cells and walk bindings in their order. They stand for who has a value's or a
+// binding's number, and promise the words of specs/ValuesByNumber for it (`value_at` of a range, `binding_at`).
 pub fn number_at(a: i32, k: u32) -> i64
     ensures { result ≡ a +ℤ pos k }
 {
-    a as i64 + k as i64
+    i64::from(a) + i64::from(k)
 }
 
 // Which functions: a row of a partial one may be without a bit.
@@ -34,17 +36,11 @@ impl Functions {
     }
 }
 
-// How many bits a set has, as a place of a pair.
-const BITS: u64 = sets::BITS as u64;
-
-// Do n rows of m bits fit a set, and can a row have `least` bits? Rows of more bits than a set has fit only where there are none.
-fn room(least: u32, n: u32, m: u32) -> bool
-    ensures { (result ≡ true → least ≤ 1 → Room least n m) × (result ≡ false → least ≤ m → n * m ≤ 16 → n ≡ 0) }
+// Do n rows of m bits fit a set, and can a row have the bits that these functions ask? Rows of more bits than a set has fit only where there are none.
+fn room(f: Functions, n: u32, m: u32) -> bool
+    ensures { (result ≡ true → Room (least_of f) n m) × (result ≡ false → least_of f ≤ m → n * m ≤ 16 → n ≡ 0) }
 {
-    if m < least || sets::BITS < m {
-        return false;
-    }
-    sets::pair(m, n, 0) <= BITS
+    (f.least()..=sets::BITS).contains(&m) && sets::pair(m, n, 0) <= sets::PLACES
 }
 
 // The k-th set of n rows of m bits, each with one bit at most and as many at least as the functions ask: the digits of k say which bit, the first row's the
@@ -52,21 +48,19 @@ fn room(least: u32, n: u32, m: u32) -> bool
 fn mask_at(f: Functions, n: u32, m: u32, k: u32) -> u16
     ensures { (least_of f ≤ m → n * m ≤ 16 → result ≡ mask_at (least_of f) n m k) × (16 < n * m → result ≡ 0) × (m < least_of f → result ≡ 0) }
 {
-    let least = f.least();
-    if !room(least, n, m) {
+    if !room(f, n, m) {
         return 0;
     }
+    let least = f.least();
     let base = m + 1 - least;
     let mut rest = k;
-    let mut from: u32 = 0;
     let mut r: u16 = 0;
     for i in 0..n {
         let d = rest % base + least;
         if d != 0 {
-            r += sets::single(from + d - 1);
+            r += sets::single(i * m + d - 1);
         }
-        rest = rest / base;
-        from += m;
+        rest /= base;
     }
     r
 }
@@ -89,10 +83,10 @@ pub fn total_mask(n: u32, m: u32, k: u32) -> u16
 fn count_at(f: Functions, n: u32, m: u32) -> u32
     ensures { (least_of f ≤ m → n * m ≤ 16 → result ≡ choices (least_of f) m ^ n) × (16 < n * m → result ≡ 1) × (m < least_of f → result ≡ 1) }
 {
-    let least = f.least();
-    if !room(least, n, m) {
+    if !room(f, n, m) {
         return 1;
     }
+    let least = f.least();
     let base = m + 1 - least;
     base.pow(n)
 }

@@ -80,12 +80,9 @@ module _ {text table rows firsts groups labels : List ℕ} {x : Result ℕ Fault
       on (reading d) q a = absurd (subst IsReadText (sym a.0 ∙ e) tt)
 
 -- the bytes of the held text, by its length
-pub text-is : (b : List ℕ) {t : List ℕ} {n : ℕ} → t ≡ take n (drop 16 b) → n ≡ from_bytes (take 4 (drop 4 b)) → t ≡ held_text b
+pub text-is : (b : List ℕ) {n : ℕ} → n ≡ from_bytes (take 4 (drop 4 b)) → take (16 + n - 16) (drop 16 b) ≡ held_text b
 unfolding held_text
-text-is b e h = e ∙ ap (λ (k : ℕ). take k (drop 16 b)) h
-
-pub part_is : (b : List ℕ) (n : ℕ) → take (16 + n - 16) (drop 16 b) ≡ take n (drop 16 b)
-part_is b n = let s : 16 + n - 16 ≡ n = omega arith in ap (λ (k : ℕ). take k (drop 16 b)) s
+text-is b {n} h = let s : 16 + n - 16 ≡ from_bytes (take 4 (drop 4 b)) = omega (arith, h) in ap (λ (k : ℕ). take k (drop 16 b)) s
 
 pub reads_as : {t text table rows firsts groups labels : List ℕ} {x : Result ℕ Fault} → ReadsText t table rows firsts groups labels x → t ≡ text → ReadsText text table rows firsts groups labels x
 reads_as {table = table} {rows} {firsts} {groups} {labels} {x} h e = subst (λ (w : List ℕ). ReadsText w table rows firsts groups labels x) e h

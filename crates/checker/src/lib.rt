@@ -1,9 +1,11 @@
 // The five calls on a held check kept in lent bytes: load, advance, verdict, witness, drop. Each reads the held text again.
 // Stack: 1,536 KiB are enough for every text and every call. The arrays of a reading stand there, and the walks over nodes go as deep as a chain of operators
 // is long. The figure is measured, on the texts that need the most (tests/stack), and not proved.
+// Form 5: that the bytes are laid is asked of three inner functions. A struct of the bytes with that as its invariant could be made only in `open_bytes`, which tests it, and would be
+// handed on to `put_held` in `Opened`, beside the bytes that the calls have.
 #![tactic(auto)]
 
-ghost use Rattle.std.specs.Prelude.{◌≡◌, [], true, ◌+◌, ◌≤◌, length, take, drop};
+ghost use Rattle.std.specs.Prelude.{◌≡◌, [], true};
 ghost use Rattle.obligations.specs.Calls as call;
 ghost use Rattle.held_checks.specs.HeldBytes.{held_text, is_laid};
 ghost use Rattle.held_checks.specs.Answers.{load_answer, advance_answer, verdict_answer, witness_answer, dropped};
@@ -35,12 +37,12 @@ pub struct Opened {
     pub all: usize,
 }
 
-// The bytes of a text of length n.
-fn text_in(held: &[u8], n: usize) -> &[u8]
-    requires { 16 + n ≤ length held.now }
-    ensures { result.now ≡ take n (drop 16 held.now) }
+// The text in laid bytes.
+fn text_in(held: &[u8; HELD]) -> &[u8]
+    requires { is_laid held.now ≡ true }
+    ensures { result.now ≡ held_text held.now }
 {
-    let end = TEXT + n;
+    let end = TEXT + length_in(held);
     &held[TEXT..end]
 }
 
@@ -49,8 +51,7 @@ fn open_text(held: &[u8; HELD], a: &mut Arrays) -> Result<usize, Fault>
     requires { is_laid held.now ≡ true }
     ensures { ReadsText (held_text held.now) a.new.table a.new.rows a.new.firsts a.new.groups a.new.labels result }
 {
-    let n = length_in(held);
-    a.read(text_in(held, n))
+    a.read(text_in(held))
 }
 
 // What the bytes stand for, with the arrays of its text.
@@ -129,9 +130,8 @@ fn put_held(held: &[u8; HELD], a: &Arrays, o: Opened, out: &mut [u8; WITNESS]) -
 {
     let d = a.dossier(o.operations);
     let f = find(&d, o.place - 1);
-    let n = length_in(held);
     let names = Names {
-        text: text_in(held, n),
+        text: text_in(held),
         labels: &a.labels,
     };
     let mut w = Writer { out, at: 0 };

@@ -18,9 +18,10 @@ use Rattle.evaluation.specs.EvaluationByNumber.{Values, TruthIs}
 use Rattle.evaluation.specs.SlotValues.{Held}
 use Rattle.evaluation.specs.Heights.{height_pred}
 use Rattle.evaluation.proofs.SoundTrees.{SoundPred, sound-paren, sound-connected}
-use Rattle.evaluation.proofs.StandingNodes.{stands-length, two-parts}
+use Rattle.evaluation.proofs.StandingNodes.{two-parts}
 use Rattle.evaluation.proofs.TablesEvaluate.{pred_evaluates}
 use Rattle.conjunct_tests.specs.ConjunctTests.{Conjunct, Conjuncts, no_conjuncts, more_conjuncts}
+use Rattle.search_groups.proofs.NodeSpansStandingParts.{stands-length}
 
 module _ (table : List ℕ) (Γ : Scope) (W : Slots) where
   pub conjunct-answers : (q : Pred) (from to : ℕ) (ρ : Environment) (σ : Values) → Conjunct table Γ W q from to → Held Γ W 0 ρ σ
@@ -39,7 +40,7 @@ module _ (table : List ℕ) (Γ : Scope) (W : Slots) where
   single q from to c =
       let r : List ℕ = conjunct_row from to (used_pred q W 38) in
       let h : Conjuncts table Γ W r (q ∷ []) = subst (λ (rows : List ℕ). Conjuncts table Γ W rows (q ∷ [])) (append-nil r) (more_conjuncts c no_conjuncts) in
-      subst (λ (n : ℕ). Conjuncts table Γ W (conjunct_row from n (used_pred q W 38)) (q ∷ [])) (stands-length table from to (pred_table q Γ W 38 from) c.stands) h
+      subst (λ (n : ℕ). Conjuncts table Γ W (conjunct_row from n (used_pred q W 38)) (q ∷ [])) (stands-length c.stands) h
 
   joined : (u v : List ℕ) (ps qs : List Pred) → Conjuncts table Γ W u ps → Conjuncts table Γ W v qs → Conjuncts table Γ W (u ++ v) (ps ++ qs)
   joined _ v _ qs no_conjuncts d = d

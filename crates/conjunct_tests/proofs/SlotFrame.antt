@@ -29,17 +29,7 @@ use Rattle.search_groups.specs.Conjuncts.{used_term, used_items, used_pairs, use
 use Rattle.evaluation.specs.EvaluationByNumber.{Values}
 use Rattle.evaluation.specs.SlotValues.{Slotted, Held}
 use Rattle.conjunct_tests.specs.ConjunctTests.{Agree, agree_none, agree_more}
-
-abbrev slot_of : Slots → Name → Option (Name × ℕ)
-slot_of W x = find (λ (w : Name × ℕ). same_name w.0 x) W
-
-slot-here : (w : Name × ℕ) (W : Slots) (x : Name) → same_name w.0 x ≡ true → slot_of (w ∷ W) x ≡ some w
-unfolding find
-slot-here w W x e = rw (find, e)
-
-slot-past : (w : Name × ℕ) (W : Slots) (x : Name) → same_name w.0 x ≡ false → slot_of (w ∷ W) x ≡ slot_of W x
-unfolding find
-slot-past w W x e = rw (find, e)
+use Rattle.search_groups.proofs.ScopePlaces.{slot_of, slot-here, slot-there}
 
 -- ---- a name that is mentioned, and found among the slots, has its slot among those used
 
@@ -94,7 +84,7 @@ module _ (y : Name) (w : Name × ℕ) where
       → Among y (others x (pred_names p)) → Among w.1 (used_pred p ((plain x, s) ∷ W) (next_slot s))
   bound-slot x p W s f h m =
       let o = other_name x y (pred_names p) m in
-      h (slot-past (plain x, s) W y o.differs ∙ f) o.among
+      h (slot-there (plain x, s) W y o.differs ∙ f) o.among
 
   mutual
     unfolding term_names used_term Among
@@ -168,7 +158,7 @@ same-value P gs x _ _ _ (agree_more {w} {b} {c} {W} {B} {C} p q v a) h = go (sam
         value-first gs b B x (ap (λ (y : Name). same_name y x) (sym p) ∙ e) ∙ v (h w (slot-here w W x e))
         ∙ sym (value-first gs c C x (ap (λ (y : Name). same_name y x) (sym q) ∙ e))
     go false e r =
-        value-later gs b B x (ap (λ (y : Name). same_name y x) (sym p) ∙ e) ∙ r (λ k f. h k (slot-past w W x e ∙ f))
+        value-later gs b B x (ap (λ (y : Name). same_name y x) (sym p) ∙ e) ∙ r (λ k f. h k (slot-there w W x e ∙ f))
         ∙ sym (value-later gs c C x (ap (λ (y : Name). same_name y x) (sym q) ∙ e))
 
 fewer : (P Q : ℕ → Type 0) → ((s : ℕ) → Q s → P s) → (W : Slots) (B C : Binding) → Agree P W B C → Agree Q W B C

@@ -2,6 +2,8 @@
 // proved of the conjunct's table.
 #![tactic(auto)]
 
+ghost use Rattle.std.specs.Iterator.{IsFinite};
+
 use form::node;
 use form::node::NUMBERS;
 use lexical::bounds::SYMBOLS;
@@ -73,27 +75,30 @@ fn brackets_wanting(y: &Symbols<'_>, e: Ends) -> Wanting {
     w
 }
 
+// The n-th bracket of a side among some symbols, the first of which counts for none.
+fn bracket_among<I: Iterator<Item = usize> + Drop>(
+    y: &Symbols<'_>,
+    symbols: I,
+    first: usize,
+    side: Bracket,
+    n: usize,
+) -> Option<usize>
+    requires can { I.can_next symbols }
+    requires ends { IsFinite (I.remaining symbols) }
+{
+    symbols
+        .filter(|&s| s == first || bracket_of(y.kind(s)) == Some(side))
+        .nth(n)
+}
+
 // Back to the n-th bracket that opens.
 fn opened(y: &Symbols<'_>, first: usize, n: usize) -> usize {
-    match n.checked_sub(1) {
-        Some(k) => (0..first)
-            .rev()
-            .filter(|&s| bracket_of(y.kind(s)) == Some(Bracket::Open))
-            .nth(k)
-            .unwrap_or(0),
-        None => first,
-    }
+    bracket_among(y, (0..=first).rev(), first, Bracket::Open, n).unwrap_or(0)
 }
 
 // On to the n-th bracket that closes.
 fn closed(y: &Symbols<'_>, last: usize, n: usize) -> usize {
-    match n.checked_sub(1) {
-        Some(k) => (last.saturating_add(1)..SYMBOLS)
-            .filter(|&s| bracket_of(y.kind(s)) == Some(Bracket::Close))
-            .nth(k)
-            .unwrap_or(last.max(SYMBOLS)),
-        None => last,
-    }
+    bracket_among(y, last..SYMBOLS, last, Bracket::Close, n).unwrap_or(last.max(SYMBOLS))
 }
 
 // The bytes of a span without the blanks at its end.

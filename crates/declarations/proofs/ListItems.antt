@@ -8,7 +8,7 @@ use native.Mathlib.Omega.{arith}
 use native.Mathlib.Numerals.{add-one}
 use lib.Dec.{ltb}
 use lib.ListN.{length, get_or}
-use borrow.Author.Tests.{le-ltb, lt-ltb}
+use borrow.Author.Tests.{le-ltb}
 use Rattle.lexical.specs.Kinds as kind
 use Rattle.lexical.specs.Kinds.{Kind, code_of, is, lookup}
 use Rattle.refusals.specs.Refusals.{Refusal, many_declared}
@@ -31,15 +31,12 @@ use Rattle.form_nodes.proofs.ReadParts.{only, Within, step-at, stops}
 use Rattle.form_nodes.proofs.RightSides.{inside}
 use Rattle.form_nodes.proofs.ItemSteps.{by-act, exact-takes, exact-stops, lookup-mapped, either, naming, either-some}
 use Rattle.form.proofs.Table.{◌&◌}
+use Rattle.form.proofs.FewBoundNames.{over-limit}
 
 -- a count of at most the limit is well, a larger one is not
 few-well : (l n : ℕ) → n ≤ l → refuse (ltb l n) many_declared ≡ none
 unfolding refuse
 few-well l n h = ap (λ (b : Bool). refuse b many_declared) (le-ltb l n h)
-
-many-over : (l n : ℕ) → l < n → refuse (ltb l n) many_declared ≡ some many_declared
-unfolding refuse
-many-over l n h = ap (λ (b : Bool). refuse b many_declared) (lt-ltb l n h)
 
 -- a mark that counts up to a limit
 pub data Counts : (ℕ → Mark) → ℕ → Type 0 where
@@ -61,12 +58,12 @@ count-well s at n operations h w q = few-well 16 n h
 
 pub count-over : {x : ℕ → Mark} {l : ℕ} (s : List ℕ) (at n : ℕ) → Counts x l → l < n → Within s at (λ k j v. settled k j v (x n) ≡ some many_declared)
 unfolding settled excess
-count-over s at n givens h w q = many-over 8 n h
-count-over s at n elements h w q = many-over 8 n h
-count-over s at n variables h w q = many-over 8 n h
-count-over s at n inputs h w q = many-over 3 n h
-count-over s at n outputs h w q = many-over 3 n h
-count-over s at n operations h w q = many-over 16 n h
+count-over s at n givens h w q = over-limit 8 n many_declared h
+count-over s at n elements h w q = over-limit 8 n many_declared h
+count-over s at n variables h w q = over-limit 8 n many_declared h
+count-over s at n inputs h w q = over-limit 3 n many_declared h
+count-over s at n outputs h w q = over-limit 3 n many_declared h
+count-over s at n operations h w q = over-limit 16 n many_declared h
 
 pub entry-counts : {word limit : ℕ} {f : ℕ → Item} {ο : List Item} {x : ℕ → Mark} → EntriesOf word limit f ο x → Counts x limit
 entry-counts of_givens = givens

@@ -1,6 +1,6 @@
 // The contents of a dossier, given sets and declarations: numbers 4 and 6 of document 01, and their nodes.
-// Form 5: a value of the symbols, the lent nodes, the place and the count, with `Room` as its invariant, would be changed by each function: one that refuses
-// would have to show the invariant of what it leaves half read, and a promise would name four fields before and after for a place, a count and the answer.
+// Form 5: a value of the symbols, the lent nodes and what is read, with `Room` as its invariant, would be changed by each function: one that refuses
+// would have to show the invariant of what it leaves half read, and a promise would name its fields before and after for what was read and the answer.
 ghost use Rattle.std.specs.Prelude.{◌≡◌, [], ◌∷◌, ◌++◌, ◌+◌, ◌*◌, ◌≤◌, ◌<◌, leb, length, get_or};
 ghost use Rattle.lexical.specs.Kinds as kind;
 ghost use Rattle.form.specs.Written.{an_element, a_variable};
@@ -49,35 +49,37 @@ pub fn title(s: &[u8], at: usize, k: u8, limit: u8) -> Result<(), Fault>
 // Form 3: an entry is two symbols, and the place of a wrong one or of one too many is a fault of the form.
 fn entries(
     y: &Symbols<'_>,
-    start: usize,
+    from: Read,
     word: u8,
     shape: u16,
     limit: u8,
     code: &mut [u16],
-    from: usize,
 ) -> Result<Read, Fault>
-    requires { Room y.now.kinds.now code.old start from × (1 ≤ word) }
-    ensures { EntriesRead y.now.kinds.now start from word limit result × Made y.now.kinds.now y.now.values.now (part.some_entries word shape) start from code.old code.new result }
+    requires { Room y.now.kinds.now code.old from.at from.count × (1 ≤ word) }
+    ensures { EntriesRead y.now.kinds.now from.at from.count word limit result × Made y.now.kinds.now y.now.values.now (part.some_entries word shape) from.at from.count code.old code.new result }
 {
-    let mut at = start;
-    let mut n = from;
+    let mut read = from;
     let mut k: u8 = 0;
-    while kind_at(y.kinds, at) == word {
-        title(y.kinds, at + 1, k, limit)?;
-        let x = name_number(y.kinds, y.values, at + 1);
-        n = put(code, n, shape, at + 1, x, 0);
-        at = at + 1 + 1;
+    while kind_at(y.kinds, read.at) == word {
+        let name = read.at + 1;
+        title(y.kinds, name, k, limit)?;
+        let x = name_number(y.kinds, y.values, name);
+        let count = put(code, read.count, shape, name, x, 0);
+        read = Read {
+            at: name + 1,
+            count,
+        };
         k += 1;
     }
-    Ok(Read { at, count: n })
+    Ok(read)
 }
 
 // The five words between the entries.
-fn words(s: &[u8], at: usize, n: usize) -> Result<Read, Fault>
-    requires { at ≤ length s.now }
-    ensures { Reads s.now at n five_words [] result × Shown (WordsAt s.now at) n result }
+fn words(s: &[u8], from: Read) -> Result<Read, Fault>
+    requires { from.at ≤ length s.now }
+    ensures { Reads s.now from.at from.count five_words [] result × Shown (WordsAt s.now from.at) from.count result }
 {
-    let abstracts = close(s, at, codes::ABSTRACT, n)?;
+    let abstracts = close(s, from.at, codes::ABSTRACT, from.count)?;
     let concretes = close(s, abstracts.at, codes::CONCRETE, abstracts.count)?;
     let ainit = close(s, concretes.at, codes::AINIT, concretes.count)?;
     let cinit = close(s, ainit.at, codes::CINIT, ainit.count)?;
@@ -91,59 +93,59 @@ pub fn contents(y: &Symbols<'_>, code: &mut [u16]) -> Result<Read, Fault>
     let word = close(y.kinds, 0, codes::CONTENTS, 0)?;
     let sets = entries(
         y,
-        word.at,
+        word,
         codes::GIVEN,
         shapes::GIVEN_ENTRY,
         bounds::GIVEN_SETS,
         code,
-        word.count,
     )?;
-    let five = words(y.kinds, sets.at, sets.count)?;
+    let five = words(y.kinds, sets)?;
     let operations = entries(
         y,
-        five.at,
+        five,
         codes::OP,
         shapes::OPERATION_ENTRY,
         bounds::OPERATIONS,
         code,
-        five.count,
     )?;
     close(y.kinds, operations.at, codes::END, operations.count)
 }
 
 // The elements of a given set, one or more, up to its `end`.
 // Form 3: the place behind the last element is what is read, and that of the ninth is the fault.
-fn elements(y: &Symbols<'_>, start: usize, code: &mut [u16], from: usize) -> Result<Read, Fault>
-    requires { Room y.now.kinds.now code.old start from }
-    ensures { Reads y.now.kinds.now start from (a_declared (an_element 1) ∷ some_elements 1 ∷ []) (exact kind.END ∷ []) result × Made y.now.kinds.now y.now.values.now part.some_elements start from code.old code.new result × When (get_or y.now.kinds.now start 0 ≡ 2) result }
+fn elements(y: &Symbols<'_>, from: Read, code: &mut [u16]) -> Result<Read, Fault>
+    requires { Room y.now.kinds.now code.old from.at from.count }
+    ensures { Reads y.now.kinds.now from.at from.count (a_declared (an_element 1) ∷ some_elements 1 ∷ []) (exact kind.END ∷ []) result × Made y.now.kinds.now y.now.values.now part.some_elements from.at from.count code.old code.new result × When (get_or y.now.kinds.now from.at 0 ≡ 2) result }
 {
-    if kind_at(y.kinds, start) != codes::PLAIN {
-        return Err(Fault {
-            place: start,
-            refusal: Refusal::NoDossier,
-        });
-    }
-    let mut at = start;
-    let mut n = from;
+    title(y.kinds, from.at, 0, bounds::ELEMENTS)?;
+    let mut read = from;
     let mut k: u8 = 0;
-    while kind_at(y.kinds, at) == codes::PLAIN {
-        few(at, k, bounds::ELEMENTS)?;
-        let x = name_number(y.kinds, y.values, at);
-        n = put(code, n, shapes::ELEMENT, at, x, 0);
-        at += 1;
+    while kind_at(y.kinds, read.at) == codes::PLAIN {
+        few(read.at, k, bounds::ELEMENTS)?;
+        let x = name_number(y.kinds, y.values, read.at);
+        let count = put(code, read.count, shapes::ELEMENT, read.at, x, 0);
+        read = Read {
+            at: read.at + 1,
+            count,
+        };
         k += 1;
     }
-    Ok(Read { at, count: n })
+    Ok(read)
 }
 
 // The body of a given set behind its name, with the `end`.
-fn given(y: &Symbols<'_>, at: usize, code: &mut [u16], n: usize) -> Result<Read, Fault>
-    requires { Room y.now.kinds.now code.old at n × (at + 1 < length y.now.kinds.now) × (get_or y.now.kinds.now at 0 ≡ 37) × (get_or y.now.kinds.now (at + 1) 0 ≡ 2) }
-    ensures { Reads y.now.kinds.now (at + 1 + 1) (n + 4) (a_declared (an_element 1) ∷ some_elements 1 ∷ []) ([]) result × More y.now.kinds.now y.now.values.now some_givens at n code.old code.new result }
+fn given(y: &Symbols<'_>, from: Read, code: &mut [u16]) -> Result<Read, Fault>
+    requires { Room y.now.kinds.now code.old from.at from.count × (from.at + 1 < length y.now.kinds.now) × (get_or y.now.kinds.now from.at 0 ≡ 37) × (get_or y.now.kinds.now (from.at + 1) 0 ≡ 2) }
+    ensures { Reads y.now.kinds.now (from.at + 1 + 1) (from.count + 4) (a_declared (an_element 1) ∷ some_elements 1 ∷ []) ([]) result × More y.now.kinds.now y.now.values.now some_givens from.at from.count code.old code.new result }
 {
-    let x = name_number(y.kinds, y.values, at + 1);
-    let m = put(code, n, shapes::GIVEN, at, x, 0);
-    let body = elements(y, at + 1 + 1, code, m)?;
+    let name = from.at + 1;
+    let x = name_number(y.kinds, y.values, name);
+    let count = put(code, from.count, shapes::GIVEN, from.at, x, 0);
+    let titled = Read {
+        at: name + 1,
+        count,
+    };
+    let body = elements(y, titled, code)?;
     close(y.kinds, body.at, codes::END, body.count)
 }
 
@@ -151,18 +153,15 @@ fn given(y: &Symbols<'_>, at: usize, code: &mut [u16], n: usize) -> Result<Read,
 // Form 2: `operations` of parser walks alike. One walk for both would take a trait of a word, a limit and a reader, and as ghost members the machine's item for
 // each count, the mark of a name, what is expected behind it and behind all, and the part, with laws of each: more than these nine lines twice.
 // Form 3: where the next body stands, says the one that is read.
-pub fn givens(y: &Symbols<'_>, start: usize, code: &mut [u16], from: usize) -> Result<Read, Fault>
-    requires { Room y.now.kinds.now code.old start from }
-    ensures { Reads y.now.kinds.now start from (some_bodies 0 ∷ []) (two_states ++ (three_conditions ++ (some_operations 0 ∷ []))) result × Made y.now.kinds.now y.now.values.now some_givens start from code.old code.new result }
+pub fn givens(y: &Symbols<'_>, from: Read, code: &mut [u16]) -> Result<Read, Fault>
+    requires { Room y.now.kinds.now code.old from.at from.count }
+    ensures { Reads y.now.kinds.now from.at from.count (some_bodies 0 ∷ []) (two_states ++ (three_conditions ++ (some_operations 0 ∷ []))) result × Made y.now.kinds.now y.now.values.now some_givens from.at from.count code.old code.new result }
 {
-    let mut read = Read {
-        at: start,
-        count: from,
-    };
+    let mut read = from;
     let mut k: u8 = 0;
     while kind_at(y.kinds, read.at) == codes::GIVEN {
         title(y.kinds, read.at + 1, k, bounds::GIVEN_SETS)?;
-        read = given(y, read.at, code, read.count)?;
+        read = given(y, read, code)?;
         k += 1;
     }
     Ok(read)
@@ -181,92 +180,83 @@ fn arrow_of(k: u8) -> Option<u16>
 }
 
 // A type that begins with a name: a given set, or an arrow between two.
-fn named(y: &Symbols<'_>, at: usize, code: &mut [u16], n: usize) -> Result<Read, Fault>
-    requires { Room y.now.kinds.now code.old at n × NameAt y.now.kinds.now at × (at < length y.now.kinds.now) }
-    ensures { Reads y.now.kinds.now (at + 1) (n + 4) (a_type_rest ∷ []) ([]) result × Made y.now.kinds.now y.now.values.now part.a_type at n code.old code.new result }
+fn named(y: &Symbols<'_>, from: Read, code: &mut [u16]) -> Result<Read, Fault>
+    requires { Room y.now.kinds.now code.old from.at from.count × NameAt y.now.kinds.now from.at × (from.at < length y.now.kinds.now) }
+    ensures { Reads y.now.kinds.now (from.at + 1) (from.count + 4) (a_type_rest ∷ []) ([]) result × Made y.now.kinds.now y.now.values.now part.a_type from.at from.count code.old code.new result }
 {
-    let x = name_number(y.kinds, y.values, at);
-    let Some(shape) = arrow_of(kind_at(y.kinds, at + 1)) else {
-        let count = put(code, n, shapes::SET, at, x, 0);
-        return Ok(Read { at: at + 1, count });
+    let x = name_number(y.kinds, y.values, from.at);
+    let at = from.at + 1;
+    let Some(shape) = arrow_of(kind_at(y.kinds, at)) else {
+        let count = put(code, from.count, shapes::SET, from.at, x, 0);
+        return Ok(Read { at, count });
     };
-    let j = kind_at(y.kinds, at + 1 + 1);
+    let to = at + 1;
+    let j = kind_at(y.kinds, to);
     if !is_name(j) {
         return Err(Fault {
-            place: at + 1 + 1,
+            place: to,
             refusal: Refusal::NoDossier,
         });
     }
-    let second = name_number(y.kinds, y.values, at + 1 + 1);
-    let count = put(code, n, shape, at, x, second);
-    let at = at + 1 + 1 + 1;
-    Ok(Read { at, count })
+    let second = name_number(y.kinds, y.values, to);
+    let count = put(code, from.count, shape, from.at, x, second);
+    Ok(Read { at: to + 1, count })
 }
 
-fn type_form(y: &Symbols<'_>, at: usize, code: &mut [u16], n: usize) -> Result<Read, Fault>
-    requires { Room y.now.kinds.now code.old at n }
-    ensures { Reads y.now.kinds.now at n (a_type ∷ []) ([]) result × Made y.now.kinds.now y.now.values.now part.a_type at n code.old code.new result }
+fn type_form(y: &Symbols<'_>, from: Read, code: &mut [u16]) -> Result<Read, Fault>
+    requires { Room y.now.kinds.now code.old from.at from.count }
+    ensures { Reads y.now.kinds.now from.at from.count (a_type ∷ []) ([]) result × Made y.now.kinds.now y.now.values.now part.a_type from.at from.count code.old code.new result }
 {
-    let k = kind_at(y.kinds, at);
+    let k = kind_at(y.kinds, from.at);
     if k == codes::POWER {
-        let j = kind_at(y.kinds, at + 1);
+        let name = from.at + 1;
+        let j = kind_at(y.kinds, name);
         if !is_name(j) {
             return Err(Fault {
-                place: at + 1,
+                place: name,
                 refusal: Refusal::NoDossier,
             });
         }
-        let x = name_number(y.kinds, y.values, at + 1);
-        let count = put(code, n, shapes::POWER, at, x, 0);
-        let at = at + 1 + 1;
-        return Ok(Read { at, count });
+        let x = name_number(y.kinds, y.values, name);
+        let count = put(code, from.count, shapes::POWER, from.at, x, 0);
+        return Ok(Read {
+            at: name + 1,
+            count,
+        });
     }
     if !is_name(k) {
-        let ends = range(y, at, n)?;
-        let count = put_range(y.kinds, y.values, at, code, n);
+        let ends = range(y, from.at, from.count)?;
+        let count = put_range(y.kinds, y.values, from.at, code, from.count);
         return Ok(Read { count, ..ends });
     }
-    named(y, at, code, n)
+    named(y, from, code)
 }
 
 // Behind a declared name: its node, and : type ;
-fn declaration(y: &Symbols<'_>, at: usize, code: &mut [u16], n: usize) -> Result<Read, Fault>
-    requires { Room y.now.kinds.now code.old at n × NameAt y.now.kinds.now at × (at < length y.now.kinds.now) }
-    ensures { Reads y.now.kinds.now (at + 1) (n + 4) a_typed [] result × Made y.now.kinds.now y.now.values.now a_declaration at n code.old code.new result }
+fn declaration(y: &Symbols<'_>, from: Read, code: &mut [u16]) -> Result<Read, Fault>
+    requires { Room y.now.kinds.now code.old from.at from.count × NameAt y.now.kinds.now from.at × (from.at < length y.now.kinds.now) }
+    ensures { Reads y.now.kinds.now (from.at + 1) (from.count + 4) a_typed [] result × Made y.now.kinds.now y.now.values.now a_declaration from.at from.count code.old code.new result }
 {
-    let x = name_number(y.kinds, y.values, at);
-    let m = put(code, n, shapes::DECLARED, at, x, 0);
-    let colon = close(y.kinds, at + 1, codes::COLON, m)?;
-    let typed = type_form(y, colon.at, code, colon.count)?;
+    let x = name_number(y.kinds, y.values, from.at);
+    let m = put(code, from.count, shapes::DECLARED, from.at, x, 0);
+    let colon = close(y.kinds, from.at + 1, codes::COLON, m)?;
+    let typed = type_form(y, colon, code)?;
     close(y.kinds, typed.at, codes::SEMICOLON, typed.count)
 }
 
 // The declarations of a state, one or more, up to its `where`.
 // Form 2: `elements` walks alike, but writes a node of its own for each name; one walk for both would take a trait as at `givens`.
 // Form 3: where the next declaration stands, says the one that is read.
-pub fn declarations(
-    y: &Symbols<'_>,
-    start: usize,
-    code: &mut [u16],
-    from: usize,
-) -> Result<Read, Fault>
-    requires { Room y.now.kinds.now code.old start from }
-    ensures { Reads y.now.kinds.now start from (a_declared (a_variable 1) ∷ a_typed ++ (some_declarations 1 ∷ [])) (exact kind.WHERE ∷ []) result × Made y.now.kinds.now y.now.values.now part.some_declarations start from code.old code.new result × When (get_or y.now.kinds.now start 0 ≡ 2) result }
+pub fn declarations(y: &Symbols<'_>, from: Read, code: &mut [u16]) -> Result<Read, Fault>
+    requires { Room y.now.kinds.now code.old from.at from.count }
+    ensures { Reads y.now.kinds.now from.at from.count (a_declared (a_variable 1) ∷ a_typed ++ (some_declarations 1 ∷ [])) (exact kind.WHERE ∷ []) result × Made y.now.kinds.now y.now.values.now part.some_declarations from.at from.count code.old code.new result × When (get_or y.now.kinds.now from.at 0 ≡ 2) result }
 {
-    if kind_at(y.kinds, start) != codes::PLAIN {
-        return Err(Fault {
-            place: start,
-            refusal: Refusal::NoDossier,
-        });
-    }
-    let mut read = Read {
-        at: start,
-        count: from,
-    };
+    title(y.kinds, from.at, 0, bounds::VARIABLES)?;
+    let mut read = from;
     let mut k: u8 = 0;
     while kind_at(y.kinds, read.at) == codes::PLAIN {
         few(read.at, k, bounds::VARIABLES)?;
-        read = declaration(y, read.at, code, read.count)?;
+        read = declaration(y, read, code)?;
         k += 1;
     }
     Ok(read)
@@ -329,19 +319,11 @@ impl Taken {
 
 // The parameters of an operation, up to its `abstract`.
 // Form 3: where the next parameter stands, says the declaration that is read.
-pub fn parameters(
-    y: &Symbols<'_>,
-    start: usize,
-    code: &mut [u16],
-    from: usize,
-) -> Result<Read, Fault>
-    requires { Room y.now.kinds.now code.old start from }
-    ensures { Reads y.now.kinds.now start from (some_parameters 0 0 ∷ []) (exact kind.ABSTRACT ∷ []) result × Made y.now.kinds.now y.now.values.now part.some_parameters start from code.old code.new result }
+pub fn parameters(y: &Symbols<'_>, from: Read, code: &mut [u16]) -> Result<Read, Fault>
+    requires { Room y.now.kinds.now code.old from.at from.count }
+    ensures { Reads y.now.kinds.now from.at from.count (some_parameters 0 0 ∷ []) (exact kind.ABSTRACT ∷ []) result × Made y.now.kinds.now y.now.values.now part.some_parameters from.at from.count code.old code.new result }
 {
-    let mut read = Read {
-        at: start,
-        count: from,
-    };
+    let mut read = from;
     let mut taken = Taken {
         inputs: 0,
         outputs: 0,
@@ -353,7 +335,7 @@ pub fn parameters(
                 refusal: Refusal::ManyDeclared,
             });
         }
-        read = declaration(y, read.at, code, read.count)?;
+        read = declaration(y, read, code)?;
         taken = taken.more(c);
     }
     Ok(read)

@@ -2,7 +2,7 @@
 ghost use Rattle.std.specs.Prelude.{◌≡◌, ◌+◌, ◌≤◌, ◌<◌, length};
 ghost use Rattle.type_rules.specs.Passes.{refused_key};
 ghost use Rattle.type_rules.specs.TypesByNumber.{fault_key};
-ghost use Rattle.declared_names.specs.PassPromises.{TypeKinded, TypeFaulted, pairs_key_at, DeclarationFaulted, Reached, DeclaredSeen, ShownSeen, HiddenSeen, Counted, GivenFaulted, GivenKind, SizeCounted, GivenSeen};
+ghost use Rattle.declared_names.specs.PassPromises.{TypeKinded, TypeFaulted, DeclarationFaulted, Reached, DeclaredSeen, ShownSeen, HiddenSeen, Counted, GivenFaulted, GivenKind, SizeCounted, GivenSeen};
 
 use form::name_endings::PLAIN;
 use form::{node, shapes};
@@ -10,7 +10,7 @@ use lexical::bounds;
 use refusals::{Fault, Refusal};
 use type_rules::entries;
 use type_rules::entries::Kind;
-use type_rules::kinds::{all_well, entry, lesser_of, look, over_fault, put, range_fits, unless};
+use type_rules::kinds::{all_well, entry, lesser_of, look, pairs_fault, put, range_fits, unless};
 
 // What a name of a declared type is: the type's node begins at `at`.
 // Form 5: a slice from the node on would be asked to have four numbers in the place of this clause; an array of the four, each caller would have to cut out of a slice,
@@ -41,19 +41,9 @@ pub fn type_fault(code: &[u16], at: usize, names: &[Kind], sizes: &[u16]) -> Opt
         shapes::SET => unless(g.is_given(), i, Refusal::NameUnknown),
         shapes::RANGE => unless(range_fits(a, b), i, Refusal::WideType),
         shapes::POWER => unless(g.is_given(), i + 1, Refusal::NameUnknown),
-        _ => pairs_fault(i, g, entry(names, usize::from(b)), sizes),
+        // the arrow stands between the two names
+        _ => pairs_fault(sizes, g, entry(names, usize::from(b)), i, i + 2, i + 1),
     }
-}
-
-// The first fault of a type of pairs, by what its two names are.
-fn pairs_fault(i: usize, g: Kind, h: Kind, sizes: &[u16]) -> Option<Fault>
-    requires { i < 65536 }
-    ensures { fault_key result ≡ pairs_key_at i g h sizes.now }
-{
-    let first = unless(g.is_given(), i, Refusal::NameUnknown);
-    let second = unless(h.is_given(), i + 2, Refusal::NameUnknown);
-    let over = over_fault(sizes, g, h, i + 1);
-    lesser_of(first, lesser_of(second, over))
 }
 
 // Declarations, each of which brings its name into reach: the first fault.
@@ -127,7 +117,7 @@ pub fn give(code: &[u16], names: &mut [Kind], sizes: &mut [u16]) -> Result<(), F
 
 // How many given sets have begun behind a node.
 // Form 5: `chunks_exact` lends slices, of whose length only the cut speaks. `as_chunks` would lend arrays, in a list of arrays: the laws of what is left behind a piece
-// (proofs/NodePieces), for the loops here and of two crates above, would speak of two lists and of four or eight times a number in place of one list and its length.
+// (proofs/NodePieces), for the loops here and of three crates above, would speak of two lists and of four or eight times a number in place of one list and its length.
 fn counted(n: &[u16], g: u16) -> u16
     requires { (length n.now ≡ 4) × (g ≤ 8) }
     ensures { Counted n.now 0 g result }

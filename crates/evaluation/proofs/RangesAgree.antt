@@ -6,7 +6,7 @@ use native.Mathlib.Omega.{arith}
 use lib.Dec.{leb-suc-suc, leb-suc-zero, leb-zero}
 use lib.IntN.{ℤ, pos, negsuc, nat_abs, suc_ℤ, sub_ℕ, ◌+ℤ◌, ◌-ℤ◌}
 use lib.Signed.{le_z, lt_z}
-use borrow.Author.Tests.{leb-true, le-ltb, lt-ltb}
+use borrow.Author.Tests.{leb-true, lt-ltb}
 use Rattle.table_places.specs.FormTree.{End, Range}
 use Rattle.table_places.specs.FormCodes.{end_number}
 use Rattle.value_types.specs.StaticRulesCarriers.{signed, end_value}
@@ -16,6 +16,7 @@ use Rattle.value_types.specs.MeaningMeaning as mean
 use Rattle.value_types.specs.TypedValues.{RangeWithin}
 use Rattle.evaluation.specs.OperatorsByNumber.{in_range}
 use Rattle.lexical.proofs.BooleanTests.{and_left}
+use Rattle.sets.proofs.Divides.{sub_down}
 
 -- the number k stands for the integer z: it is z + 1,000
 data Shifted : ℤ → ℕ → Type 0 where
@@ -26,9 +27,6 @@ shifted_end : (b : Bool) (m : ℕ) → m ≤ 1000 → Shifted (signed b m) (cond
 shifted_end true zero h = above {a = 0} {k = 1000 - 0} (omega arith)
 shifted_end true (suc m) h = below {a = m} {k = 1000 - suc m} (omega arith)
 shifted_end false m h = above refl
-
-sub_down : (a b : ℕ) → b ≤ a → sub_ℕ a b ≡ pos (a - b)
-sub_down a b h = ap (λ (t : Bool). cond t (negsuc (b - suc a)) (pos (a - b))) (le-ltb a b h)
 
 sub-up : (a b : ℕ) → a < b → sub_ℕ a b ≡ negsuc (b - suc a)
 sub-up a b h = ap (λ (t : Bool). cond t (negsuc (b - suc a)) (pos (a - b))) (lt-ltb a b h)

@@ -38,11 +38,13 @@ module _ (w : ℕ) (f : Fits w16 w) where
     pub low-back : to_z w64 (of_z w64 (to_z w64 (of_z w64 z) -ℤ pos 1000)) ≡ pos w -ℤ pos 1000
     low-back = to_z-of_z low_fits ∙ ap (λ (v : ℤ). v -ℤ pos 1000) (widened w f e)
 
-    module _ (k : ℕ) (g : Fits w16 k) {y : ℤ} (i : y ≡ pos k) where
-      pub nth-fits : SFits w64 (to_z w64 (of_z w64 (to_z w64 (of_z w64 z) -ℤ pos 1000)) +ℤ to_z w64 (of_z w64 y))
-      nth-fits =
-          rw (low-back, widened k g i)
-          (record { sfits = lt_of_lt_of_le (add-mag (pos w -ℤ pos 1000) (pos k) 66536 65536 low-mag g.fits) (lit≤ tt) })
+  -- the k-th number from a lowest one on
+  module _ (k : ℕ) (g : Fits w16 k) {l y : ℤ} (q : l ≡ pos w -ℤ pos 1000) (i : y ≡ pos k) where
+    low-read : to_z w64 (of_z w64 l) ≡ pos w -ℤ pos 1000
+    low-read = rw q (to_z-of_z {w = w64} {z = pos w -ℤ pos 1000} (record { sfits = lt_of_lt_of_le low-mag (lit≤ tt) }))
 
-      pub nth-back : to_z w64 (of_z w64 (to_z w64 (of_z w64 (to_z w64 (of_z w64 z) -ℤ pos 1000)) +ℤ to_z w64 (of_z w64 y))) ≡ (pos w -ℤ pos 1000) +ℤ pos k
-      nth-back = to_z-of_z nth-fits ∙ ap₂ ◌+ℤ◌ low-back (widened k g i)
+    pub nth-fits : SFits w64 (to_z w64 (of_z w64 l) +ℤ to_z w64 (of_z w64 y))
+    nth-fits = rw (low-read, widened k g i) (record { sfits = lt_of_lt_of_le (add-mag (pos w -ℤ pos 1000) (pos k) 66536 65536 low-mag g.fits) (lit≤ tt) })
+
+    pub nth-back : to_z w64 (of_z w64 (to_z w64 (of_z w64 l) +ℤ to_z w64 (of_z w64 y))) ≡ (pos w -ℤ pos 1000) +ℤ pos k
+    nth-back = to_z-of_z nth-fits ∙ ap₂ ◌+ℤ◌ low-read (widened k g i)

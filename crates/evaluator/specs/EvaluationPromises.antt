@@ -1,8 +1,8 @@
 -- What the functions of the evaluator ask and promise, by numbers. Nothing here need be believed.
-use Rattle.std.specs.Prelude.{◌≡◌, Bool, List, ℕ, ◌-◌, ◌≤◌, eqb, ℤ}
+use Rattle.std.specs.Prelude.{◌≡◌, Bool, false, List, ℕ, ◌-◌, ◌≤◌, eqb, ℤ}
 use Rattle.sets.specs.Sets as sets
 use Rattle.operators.specs.EvaluationOperatorsByNumber.{asked}
-use Rattle.operators.specs.EvaluationEvaluationByNumber.{Values, first_at, low_at, count_at, Bound, TermIs, ItemsIs, TruthIs, SuchNode, QuantifierNode, AskedNode}
+use Rattle.operators.specs.EvaluationEvaluationByNumber.{Values, shape_at, first_at, low_at, count_at, Bound, TermIs, ItemsIs, TruthIs, SuchNode, QuantifierNode, AskedNode}
 
 -- asked: the nodes up to e give some value; promised: the answer is the value that they give
 pub record TermRuns (t : List ℕ) (e : ℕ) (ρ : Values) : Type 0 where
@@ -12,6 +12,11 @@ pub record TermRuns (t : List ℕ) (e : ℕ) (ρ : Values) : Type 0 where
 
 pub record TermAnswers (t : List ℕ) (e : ℕ) (ρ : Values) (r : ℤ) : Type 0 where
   pub is : (f : ℕ) (v : ℤ) → TermIs f t e ρ v → r ≡ v
+
+-- neither a number nor what stands in a slot
+pub record IsCompound (t : List ℕ) (e : ℕ) : Type 0 where
+  pub no_number : eqb (shape_at t e) 1 ≡ false
+  pub no_slot : eqb (shape_at t e) 2 ≡ false
 
 pub record ItemsRun (t : List ℕ) (e : ℕ) (ρ : Values) : Type 0 where
   pub fuel : ℕ

@@ -7,7 +7,7 @@
 
 ghost use Rattle.std.specs.Prelude.{◌≡◌, ◌<◌, pos, nat_abs, ◌+ℤ◌, ◌-ℤ◌};
 ghost use Rattle.operators.specs.EvaluationEvaluationByNumber.{Inside};
-ghost use Rattle.evaluator.specs.EvaluationPromises.{TermRuns, TermAnswers, ItemsRun, ItemsAnswer, TruthRuns, TruthAnswers};
+ghost use Rattle.evaluator.specs.EvaluationPromises.{TermRuns, IsCompound, TermAnswers, ItemsRun, ItemsAnswer, TruthRuns, TruthAnswers};
 ghost use Rattle.evaluator.specs.EvaluationPromises.{SuchRuns, SuchAnswers, AskedRuns, AskedAnswers, QuantifierRuns, QuantifierAnswers, BoundRuns, SomeAnswers, OnceAnswers};
 
 use form::node;
@@ -47,12 +47,12 @@ fn lowest(w: u16) -> i64
 fn counted(w: u16, k: u16) -> i64
     ensures { result ≡ (pos w -ℤ pos 1000) +ℤ pos k }
 {
-    i64::from(w) - RAISED + i64::from(k)
+    lowest(w) + i64::from(k)
 }
 
-// The same as `value`: variables and numbers, which most parts are, without a call.
+// The value of the term whose nodes end at `end`: of variables and numbers, which most terms are, without a further call.
 #[cycle(evaluation)]
-fn part(t: &[u16; node::NUMBERS], end: usize, slots: &mut [i64; SLOTS]) -> i64
+pub fn value(t: &[u16; node::NUMBERS], end: usize, slots: &mut [i64; SLOTS]) -> i64
     requires inside { Inside end }
     requires term_runs { TermRuns t.now end slots.old }
     ensures answers { TermAnswers t.now end slots.old result }
@@ -65,33 +65,32 @@ fn part(t: &[u16; node::NUMBERS], end: usize, slots: &mut [i64; SLOTS]) -> i64
     if shape == table_shapes::VALUE {
         return i64::from(t[end - FIRST_BACK]);
     }
-    value(t, end, slots)
+    compound(t, end, slots)
 }
 
-// The value of the term whose nodes end at `end`.
+// That of a term which is neither of these.
 #[cycle(evaluation)]
-pub fn value(t: &[u16; node::NUMBERS], end: usize, slots: &mut [i64; SLOTS]) -> i64
+fn compound(t: &[u16; node::NUMBERS], end: usize, slots: &mut [i64; SLOTS]) -> i64
     requires inside { Inside end }
     requires term_runs { TermRuns t.now end slots.old }
+    requires is_compound { IsCompound t.now end }
     ensures answers { TermAnswers t.now end slots.old result }
     ensures kept { slots.new ≡ slots.old }
 {
     let first = t[end - FIRST_BACK];
     let shape = t[end - SHAPE_BACK];
     match shape {
-        table_shapes::VALUE => i64::from(first),
-        table_shapes::SLOT => slots[first as usize],
         table_shapes::PREFIX => {
-            let x = part(t, end - node::SIZE, slots);
+            let x = value(t, end - node::SIZE, slots);
             prefixed(first, t[end - END_BACK], t[end - SECOND_BACK], x)
         }
         table_shapes::DIVIDED => {
-            let x = part(t, end - node::SIZE, slots);
+            let x = value(t, end - node::SIZE, slots);
             divided(first, t[end - SECOND_BACK], x)
         }
         table_shapes::BINARY => {
-            let x = part(t, t[end - END_BACK] as usize, slots);
-            let y = part(t, end - node::SIZE, slots);
+            let x = value(t, t[end - END_BACK] as usize, slots);
+            let y = value(t, end - node::SIZE, slots);
             operated(first, x, y)
         }
         table_shapes::SUCH => such(t, end, slots),
@@ -111,22 +110,22 @@ fn items(t: &[u16; node::NUMBERS], end: usize, slots: &mut [i64; SLOTS]) -> i64
     let shape = t[end - SHAPE_BACK];
     match shape {
         table_shapes::LAST_ITEM => {
-            let x = part(t, end - node::SIZE, slots);
+            let x = value(t, end - node::SIZE, slots);
             single(x)
         }
         table_shapes::ALSO_ITEM => {
-            let x = part(t, t[end - END_BACK] as usize, slots);
+            let x = value(t, t[end - END_BACK] as usize, slots);
             let s = items(t, end - node::SIZE, slots);
             joined(single(x), s)
         }
         table_shapes::LAST_PAIR => {
-            let x = part(t, t[end - END_BACK] as usize, slots);
-            let y = part(t, end - node::SIZE, slots);
+            let x = value(t, t[end - END_BACK] as usize, slots);
+            let y = value(t, end - node::SIZE, slots);
             single(pair(first, x, y))
         }
         _ => {
-            let x = part(t, t[end - END_BACK] as usize, slots);
-            let y = part(t, t[end - SECOND_BACK] as usize, slots);
+            let x = value(t, t[end - END_BACK] as usize, slots);
+            let y = value(t, t[end - SECOND_BACK] as usize, slots);
             let s = items(t, end - node::SIZE, slots);
             joined(single(pair(first, x, y)), s)
         }
@@ -134,6 +133,8 @@ fn items(t: &[u16; node::NUMBERS], end: usize, slots: &mut [i64; SLOTS]) -> i64
 }
 
 // {x : G | p}: the elements at which the predicate holds, from the last bit down.
+// Form 2: `points::masks::mask_of` makes such a mask by a test that changes nothing. This one writes the slot before it asks, and what a closure has written is
+// known to no law once the closure is gone, so that `kept` would stay open (as at `states::all_hold`).
 #[cycle(evaluation)]
 fn such(t: &[u16; node::NUMBERS], end: usize, slots: &mut [i64; SLOTS]) -> i64
     requires inside { Inside end }
@@ -175,8 +176,8 @@ pub fn holds(t: &[u16; node::NUMBERS], end: usize, slots: &mut [i64; SLOTS]) -> 
             connected(first, p, q)
         }
         table_shapes::COMPARED => {
-            let x = part(t, t[end - END_BACK] as usize, slots);
-            let y = part(t, end - node::SIZE, slots);
+            let x = value(t, t[end - END_BACK] as usize, slots);
+            let y = value(t, end - node::SIZE, slots);
             compared(first, x, y)
         }
         table_shapes::QUANTIFIED => quantified(t, end, slots),
@@ -196,12 +197,12 @@ fn member(t: &[u16; node::NUMBERS], end: usize, slots: &mut [i64; SLOTS]) -> boo
     let shape = t[end - SHAPE_BACK];
     match shape {
         table_shapes::MEMBER => {
-            let x = part(t, t[end - END_BACK] as usize, slots);
-            let s = part(t, end - node::SIZE, slots);
+            let x = value(t, t[end - END_BACK] as usize, slots);
+            let s = value(t, end - node::SIZE, slots);
             asked(first == IN, has(s, x))
         }
         table_shapes::WITHIN => {
-            let x = part(t, end - TWO_NODES, slots);
+            let x = value(t, end - TWO_NODES, slots);
             asked(
                 first == IN,
                 in_range(
@@ -212,9 +213,9 @@ fn member(t: &[u16; node::NUMBERS], end: usize, slots: &mut [i64; SLOTS]) -> boo
             )
         }
         _ => {
-            let x = part(t, t[end - END_BACK] as usize, slots);
-            let y = part(t, t[end - SECOND_BACK] as usize, slots);
-            let s = part(t, end - node::SIZE, slots);
+            let x = value(t, t[end - END_BACK] as usize, slots);
+            let y = value(t, t[end - SECOND_BACK] as usize, slots);
+            let s = value(t, end - node::SIZE, slots);
             asked(shape == table_shapes::RELATED, has(s, pair(first, x, y)))
         }
     }

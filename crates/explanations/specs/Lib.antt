@@ -1,2 +1,1 @@
-pub mod Asked
 pub mod Bounded

@@ -1,6 +1,6 @@
 // What an accepted dossier bought, in numbers, and a run of both machines side by side.
 use crate::bounds::{MOST_PAIRS, is_short, product};
-use crate::dossiers::ReadDossier;
+use crate::dossiers::ReadText;
 use crate::items::states;
 use pages::{Bindings, Page};
 use phrases::words;
@@ -10,7 +10,7 @@ use step_facts::{
 };
 
 // States that have no partner on the other side.
-fn say_lonely(r: &ReadDossier<'_, '_>, page: &mut Page) {
+fn say_lonely(r: &ReadText<'_, '_>, page: &mut Page) {
     if let Some(c) = next_lonely_concrete(&r.dossier, 0) {
         page.say_at(
             words::A_CONCRETE_STATE_THAT_STANDS_FOR_NOTHING,
@@ -28,7 +28,7 @@ fn say_lonely(r: &ReadDossier<'_, '_>, page: &mut Page) {
 }
 
 // Where the abstract side of an operation promises to step, of `many` abstract states.
-fn say_promises(r: &ReadDossier<'_, '_>, j: usize, many: usize, page: &mut Page) {
+fn say_promises(r: &ReadText<'_, '_>, j: usize, many: usize, page: &mut Page) {
     let s = spans(&r.dossier, j);
     if !is_short(s) {
         page.say_for(words::PROMISES_LEFT_OUT, j);
@@ -41,8 +41,8 @@ fn say_promises(r: &ReadDossier<'_, '_>, j: usize, many: usize, page: &mut Page)
 }
 
 // States and related pairs, counted.
-fn say_counts(r: &ReadDossier<'_, '_>, page: &mut Page) {
-    let s = spans(&r.dossier, r.dossier.operations);
+fn say_counts(r: &ReadText<'_, '_>, page: &mut Page) {
+    let s = spans(&r.dossier, r.dossier.arrays.operations);
     let pairs = product(s.na, s.nc);
     if MOST_PAIRS < pairs {
         page.say_of(words::COUNTS_LEFT_OUT, 0, pairs, MOST_PAIRS);
@@ -55,7 +55,7 @@ fn say_counts(r: &ReadDossier<'_, '_>, page: &mut Page) {
     let n = related_pairs(&r.dossier);
     page.say_of(words::RELATED_PAIRS, 0, n, 0);
     say_lonely(r, page);
-    for j in 0..r.dossier.operations {
+    for j in 0..r.dossier.arrays.operations {
         say_promises(r, j, a, page);
     }
 }
@@ -73,10 +73,10 @@ fn say_step(page: &mut Page, j: usize, s: BothStep) {
 }
 
 // The operations one after the other, each where the abstract side promises it.
-fn say_run(r: &ReadDossier<'_, '_>, x: Pair, page: &mut Page) {
+fn say_run(r: &ReadText<'_, '_>, x: Pair, page: &mut Page) {
     page.say_at(words::A_RUN, 0, states(x.a, x.c));
     let mut at = x;
-    for j in 0..r.dossier.operations {
+    for j in 0..r.dossier.arrays.operations {
         if let Some(s) = step(&r.dossier, j, at) {
             say_step(page, j, s);
             at = Pair { a: s.b, c: s.k };
@@ -84,10 +84,10 @@ fn say_run(r: &ReadDossier<'_, '_>, x: Pair, page: &mut Page) {
     }
 }
 
-pub fn say_accepted(r: &ReadDossier<'_, '_>, page: &mut Page) {
+pub fn say_accepted(r: &ReadText<'_, '_>, page: &mut Page) {
     page.say(words::ACCEPTED);
     page.say(words::WHAT_WAS_BOUGHT);
-    if r.dossier.operations == 0 {
+    if r.dossier.arrays.operations == 0 {
         page.say(words::NO_OPERATION);
         return;
     }

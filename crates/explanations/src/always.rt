@@ -2,7 +2,7 @@
 ghost use Rattle.std.specs.Prelude.{◌≤◌};
 
 use crate::bounds::is_short;
-use crate::dossiers::ReadDossier;
+use crate::dossiers::ReadText;
 use crate::items::counts_of;
 use lexical::bounds::OPERATIONS;
 use pages::{Bindings, Page};
@@ -16,7 +16,7 @@ use step_facts::{Place, narrowed, spans, widened};
 fn context_of(j: usize) -> usize
     ensures { result ≤ 37 }
 {
-    contexts::OPERATIONS + contexts::SIDES * j.min(OPERATIONS as usize)
+    contexts::OPERATIONS + contexts::SIDES * j.min(usize::from(OPERATIONS))
 }
 
 // The variables of a group of n from a slot on that a predicate leaves out, by its context.
@@ -28,7 +28,7 @@ struct Omission {
     n: usize,
 }
 
-fn say_omission(r: &ReadDossier<'_, '_>, j: usize, o: Omission, page: &mut Page) {
+fn say_omission(r: &ReadText<'_, '_>, j: usize, o: Omission, page: &mut Page) {
     let bits = left_out(&r.dossier, o.context, o.slot, o.n);
     if bits != 0 {
         page.say_of(o.phrase, j, bits, 0);
@@ -36,7 +36,7 @@ fn say_omission(r: &ReadDossier<'_, '_>, j: usize, o: Omission, page: &mut Page)
 }
 
 // What the predicates of an operation leave out.
-fn say_left_out(r: &ReadDossier<'_, '_>, j: usize, page: &mut Page) {
+fn say_left_out(r: &ReadText<'_, '_>, j: usize, page: &mut Page) {
     let n = counts_of(r, j);
     let context = context_of(j);
     let omissions = [
@@ -72,10 +72,10 @@ fn say_left_out(r: &ReadDossier<'_, '_>, j: usize, page: &mut Page) {
 
 // What the predicates of all operations leave out. What is listed is left out; that what is not listed is mentioned rests on `mentions::Mention::free_pred`,
 // whose promise is one-sided.
-pub fn say_omissions(r: &ReadDossier<'_, '_>, page: &mut Page) {
+pub fn say_omissions(r: &ReadText<'_, '_>, page: &mut Page) {
     page.say(words::WHAT_PREDICATES_LEAVE_OUT);
     let told = page.items().len();
-    for j in 0..r.dossier.operations {
+    for j in 0..r.dossier.arrays.operations {
         say_left_out(r, j, page);
     }
     if page.items().len() == told {
@@ -98,7 +98,7 @@ fn say_place(page: &mut Page, phrase: usize, j: usize, place: Option<Place>) {
     }
 }
 
-fn say_precondition(r: &ReadDossier<'_, '_>, j: usize, page: &mut Page) {
+fn say_precondition(r: &ReadText<'_, '_>, j: usize, page: &mut Page) {
     let s = spans(&r.dossier, j);
     if !is_short(s) {
         page.say_for(words::NOT_COMPARED, j);
@@ -114,9 +114,9 @@ fn say_precondition(r: &ReadDossier<'_, '_>, j: usize, page: &mut Page) {
 }
 
 // The preconditions of all operations.
-pub fn say_preconditions(r: &ReadDossier<'_, '_>, page: &mut Page) {
+pub fn say_preconditions(r: &ReadText<'_, '_>, page: &mut Page) {
     page.say(words::PRECONDITIONS);
-    for j in 0..r.dossier.operations {
+    for j in 0..r.dossier.arrays.operations {
         say_precondition(r, j, page);
     }
 }

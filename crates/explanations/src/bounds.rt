@@ -11,6 +11,7 @@ const MOST: usize = 67108864;
 pub const MOST_PAIRS: usize = 1048576;
 
 // The product, or more than any where it is larger than MOST.
+// Form 1: of the eight calls outside `is_short` two show the number, three count from it, two compare with it, and one does both: with an Option each would unwrap it.
 pub fn product(x: usize, y: usize) -> usize
     ensures { result ≡ bounded x y }
 {

@@ -1,5 +1,5 @@
 // What is found of a dossier by the numbers of bindings.
-use crate::dossiers::ReadDossier;
+use crate::dossiers::ReadText;
 use conjunct_texts::bytes_of;
 use pages::{Bindings, Counts};
 use phrases::SLOTS;
@@ -17,8 +17,8 @@ pub fn states(a: usize, c: usize) -> Bindings {
 }
 
 // The bytes of the conjunct whose row begins there, if it has some.
-pub fn conjunct_at(r: &ReadDossier<'_, '_>, row: Option<usize>) -> Option<Span> {
-    let rows = r.dossier.rows;
+pub fn conjunct_at(r: &ReadText<'_, '_>, row: Option<usize>) -> Option<Span> {
+    let rows = r.dossier.arrays.rows;
     let ends = rows.get(row?..)?;
     let from = ends.first().copied()?;
     let end = ends.get(END).copied()?;
@@ -26,7 +26,7 @@ pub fn conjunct_at(r: &ReadDossier<'_, '_>, row: Option<usize>) -> Option<Span> 
 }
 
 // How many variables the groups of an operation have.
-pub fn counts_of(r: &ReadDossier<'_, '_>, j: usize) -> Counts {
+pub fn counts_of(r: &ReadText<'_, '_>, j: usize) -> Counts {
     let mut values = [0i64; SLOTS];
-    show(&r.dossier, j, Bindings::default(), &mut values)
+    show(&r.dossier.arrays, j, Bindings::default(), &mut values)
 }

@@ -5,7 +5,7 @@ ghost use Rattle.std.specs.Prelude.{◌≤◌};
 
 use crate::accepted::say_accepted;
 use crate::always::{say_omissions, say_preconditions};
-use crate::dossiers::ReadDossier;
+use crate::dossiers::ReadText;
 use crate::refuted::{say_applicability, say_correctness, say_initialisation};
 use held_checks::{Obligation, obligation_of};
 use labels::{LABELS, Names};
@@ -17,6 +17,7 @@ use refusal_pages::say_refusal;
 use refusals::Fault;
 use sheets::{SHEET, Sheet};
 use state_facts::show;
+use step_searches::ReadDossier;
 use text_readings::Arrays;
 
 mod accepted;
@@ -27,7 +28,7 @@ mod items;
 mod reached;
 mod refuted;
 
-fn say_refuted(r: &ReadDossier<'_, '_>, f: Found, page: &mut Page) {
+fn say_refuted(r: &ReadText<'_, '_>, f: Found, page: &mut Page) {
     match obligation_of(f.part) {
         Obligation::Initialisation => say_initialisation(r, f.at, page),
         Obligation::Applicability(j) => say_applicability(r, j, f.at, page),
@@ -35,23 +36,25 @@ fn say_refuted(r: &ReadDossier<'_, '_>, f: Found, page: &mut Page) {
     }
 }
 
+// The place at which the search over all of them fails, if there is one.
+fn failing(d: &ReadDossier<'_>) -> Option<Found> {
+    let all = total(&d.arrays);
+    let place = search(&d.arrays, 0, all)?;
+    Some(find(&d.arrays, place))
+}
+
 // The verdict, and what is behind it.
-fn say_verdict(r: &ReadDossier<'_, '_>, page: &mut Page) {
-    let all = total(&r.dossier);
-    let found = search(&r.dossier, 0, all);
-    match found {
-        Some(place) => {
-            let f = find(&r.dossier, place);
-            say_refuted(r, f, page);
-        }
+fn say_verdict(r: &ReadText<'_, '_>, page: &mut Page) {
+    match failing(&r.dossier) {
+        Some(f) => say_refuted(r, f, page),
         None => say_accepted(r, page),
     }
 }
 
 // All that is said of a dossier.
-fn say_all(r: &ReadDossier<'_, '_>, page: &mut Page) {
+fn say_all(r: &ReadText<'_, '_>, page: &mut Page) {
     say_verdict(r, page);
-    if 0 < r.dossier.operations {
+    if 0 < r.dossier.arrays.operations {
         say_omissions(r, page);
         say_preconditions(r, page);
     }
@@ -67,7 +70,7 @@ fn copy_sheet(sheet: &Sheet, out: &mut [u8; SHEET]) -> usize
 }
 
 // The explanation of a dossier that is read.
-fn explain_dossier(r: &ReadDossier<'_, '_>, labels: &[u16; LABELS], out: &mut [u8; SHEET]) -> usize
+fn explain_dossier(r: &ReadText<'_, '_>, labels: &[u16; LABELS], out: &mut [u8; SHEET]) -> usize
     ensures { result ≤ 65536 }
 {
     let mut page = Page::new();
@@ -75,7 +78,7 @@ fn explain_dossier(r: &ReadDossier<'_, '_>, labels: &[u16; LABELS], out: &mut [u
     let mut sheet = Sheet::new();
     for e in page.items() {
         let mut slots = [0i64; SLOTS];
-        let counts = show(&r.dossier, e.operation, e.bindings, &mut slots);
+        let counts = show(&r.dossier.arrays, e.operation, e.bindings, &mut slots);
         let s = Source {
             names: Names {
                 text: r.text,
@@ -90,6 +93,7 @@ fn explain_dossier(r: &ReadDossier<'_, '_>, labels: &[u16; LABELS], out: &mut [u
 }
 
 // The explanation of a refused text: it speaks of no bindings.
+// Form 2: the lines around the items of the page are those of `explain_dossier`; as one function it would take the values of an item as a closure that may be run (`F.pre`).
 fn explain_refusal(text: &[u8], labels: &[u16; LABELS], f: Fault, out: &mut [u8; SHEET]) -> usize
     ensures { result ≤ 65536 }
 {
@@ -116,8 +120,9 @@ pub fn explain(text: &[u8], out: &mut [u8; SHEET]) -> usize
     match answer {
         Err(f) => explain_refusal(text, &a.labels, f, out),
         Ok(operations) => {
-            let d = a.dossier(operations);
-            let r = ReadDossier { text, dossier: d };
+            let arrays = a.dossier(operations);
+            let dossier = ReadDossier { arrays };
+            let r = ReadText { text, dossier };
             explain_dossier(&r, &a.labels, out)
         }
     }

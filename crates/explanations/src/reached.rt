@@ -1,6 +1,7 @@
 // Whether both machines come to a pair of states, and by which list of operations.
 use crate::bounds::product;
-use crate::dossiers::ReadDossier;
+use crate::dossiers::ReadText;
+use lexical::classes::at_or;
 use pages::{Bindings, Item, Page, plain};
 use phrases::words;
 use reached_pairs::marks::{self, Mark, PAIRS};
@@ -10,15 +11,11 @@ use step_facts::spans;
 // How many pairs the search goes on from, so that its time is bounded.
 const BUDGET: usize = 4096;
 
-fn mark_at(marks: &[Mark; PAIRS], x: usize) -> Mark {
-    marks.get(x).copied().unwrap_or(marks::NONE)
-}
-
 // The pair n entries before x.
 fn pair_back(marks: &[Mark; PAIRS], x: usize, n: usize) -> usize {
     let mut y = x;
     for _ in 0..n {
-        y = mark_at(marks, y).before as usize;
+        y = at_or(marks, y, marks::NONE).before as usize;
     }
     y
 }
@@ -26,7 +23,7 @@ fn pair_back(marks: &[Mark; PAIRS], x: usize, n: usize) -> usize {
 // The entries that lead to x, n in all, from the first on.
 fn say_entries(marks: &[Mark; PAIRS], x: usize, n: usize, page: &mut Page) {
     for k in 0..n {
-        let m = mark_at(marks, pair_back(marks, x, n - (k + 1)));
+        let m = at_or(marks, pair_back(marks, x, n - (k + 1)), marks::NONE);
         page.add(Item {
             bindings: Bindings {
                 i: usize::from(m.input),
@@ -43,12 +40,12 @@ fn say_entries(marks: &[Mark; PAIRS], x: usize, n: usize, page: &mut Page) {
 }
 
 // What the marks say of a pair of states.
-pub fn say_reached(r: &ReadDossier<'_, '_>, a: usize, c: usize, page: &mut Page) {
-    let s = spans(&r.dossier, r.dossier.operations);
+pub fn say_reached(r: &ReadText<'_, '_>, a: usize, c: usize, page: &mut Page) {
+    let s = spans(&r.dossier, r.dossier.arrays.operations);
     let mut marks = [marks::NONE; PAIRS];
     let whole = reach(&r.dossier, BUDGET, &mut marks);
     let x = product(a, s.nc).saturating_add(c);
-    match mark_at(&marks, x).entries() {
+    match at_or(&marks, x, marks::NONE).entries() {
         None if whole => page.say(words::NOT_REACHED),
         None => page.say_of(words::REACHED_LEFT_OUT, 0, product(s.na, s.nc), PAIRS),
         Some(0) => page.say(words::REACHED_AT_ONCE),

@@ -2,7 +2,7 @@
 ghost use Rattle.std.specs.Prelude.{◌<◌};
 
 use crate::bounds::product;
-use crate::dossiers::ReadDossier;
+use crate::dossiers::ReadText;
 use crate::items::{conjunct_at, states};
 use crate::reached::say_reached;
 use pages::{Bindings, Page};
@@ -16,7 +16,7 @@ const SHOWN: usize = 4;
 
 // The states of an item, and why they are not related.
 fn say_unrelated(
-    r: &ReadDossier<'_, '_>,
+    r: &ReadText<'_, '_>,
     phrase: usize,
     j: usize,
     x: Bindings,
@@ -30,31 +30,39 @@ fn say_unrelated(
     }
 }
 
-// ---- initialisation
-
-// The abstract initial states from a on, as many as are shown, each with why it is not related; `and more` where there are others.
-fn say_initials(r: &ReadDossier<'_, '_>, first: usize, c: usize, page: &mut Page) {
-    let mut next = Some(first);
+// The states from the first on, as many as are shown; a state is said by the closure, which answers the next one. `and more` where there are others.
+fn say_states<F: Fn(usize, &mut Page) -> Option<usize>>(
+    first: Option<usize>,
+    say: F,
+    page: &mut Page,
+)
+    requires { F.IsAlwaysCallable say }
+{
+    let mut next = first;
     for _ in 0..SHOWN {
-        let Some(a) = next else {
+        let Some(k) = next else {
             return;
         };
-        say_unrelated(
-            r,
-            words::AN_ABSTRACT_STATE,
-            0,
-            states(a, c),
-            Pair { a, c },
-            page,
-        );
-        next = next_abstract_initial(&r.dossier, a.saturating_add(1));
+        next = say(k, page);
     }
     if next.is_some() {
         page.say(words::AND_MORE);
     }
 }
 
-pub fn say_initialisation(r: &ReadDossier<'_, '_>, c: usize, page: &mut Page) {
+// ---- initialisation
+
+// The abstract initial states from a on, each with why it is not related.
+fn say_initials(r: &ReadText<'_, '_>, first: usize, c: usize, page: &mut Page) {
+    let say = |a: usize, page: &mut Page| {
+        let x = states(a, c);
+        say_unrelated(r, words::AN_ABSTRACT_STATE, 0, x, Pair { a, c }, page);
+        next_abstract_initial(&r.dossier, a.saturating_add(1))
+    };
+    say_states(Some(first), say, page);
+}
+
+pub fn say_initialisation(r: &ReadText<'_, '_>, c: usize, page: &mut Page) {
     page.say(words::REFUTED_INITIALISATION);
     page.say_at(words::THE_BINDING_OF_INITIALISATION, 0, states(0, c));
     let Some(a) = next_abstract_initial(&r.dossier, 0) else {
@@ -99,11 +107,11 @@ fn applied(place: usize, s: Widths) -> Bindings
     }
 }
 
-pub fn say_applicability(r: &ReadDossier<'_, '_>, j: usize, place: usize, page: &mut Page) {
+pub fn say_applicability(r: &ReadText<'_, '_>, j: usize, place: usize, page: &mut Page) {
     let s = spans(&r.dossier, j);
     let x = applied(place, s);
     say_binding(words::REFUTED_APPLICABILITY, j, x, page);
-    if let Some(step) = abstract_step(&r.dossier, j, x.a, x.i, 0).number() {
+    if let Some(step) = abstract_step(&r.dossier, j, x.a, x.i, 0).unwrap_or(None) {
         let holds = stepped(x, step, s.na);
         page.say_at(words::WHAT_HOLDS_OF_APPLICABILITY, j, holds);
     }
@@ -113,7 +121,7 @@ pub fn say_applicability(r: &ReadDossier<'_, '_>, j: usize, place: usize, page: 
 }
 
 // Which condition of the concrete guard is false.
-fn say_guard(r: &ReadDossier<'_, '_>, j: usize, x: Bindings, page: &mut Page) {
+fn say_guard(r: &ReadText<'_, '_>, j: usize, x: Bindings, page: &mut Page) {
     let row = false_guard(&r.dossier, j, x.c, x.i);
     match conjunct_at(r, row) {
         Some(b) => page.say_of(words::A_CONDITION_THAT_IS_FALSE, 0, b.from, b.to),
@@ -145,22 +153,12 @@ fn first_of(step: Option<usize>, end: usize) -> Option<usize> {
     step.filter(|k| *k < end)
 }
 
-// The abstract steps with the inputs and outputs of the binding from the first on, as many as are shown, each with why it does not do; `and more` where there are others.
-fn say_steps(
-    r: &ReadDossier<'_, '_>,
-    j: usize,
-    x: Bindings,
-    first: Option<usize>,
-    page: &mut Page,
-) {
+// The abstract steps with the inputs and outputs of the binding from the first on, each with why it does not do.
+fn say_steps(r: &ReadText<'_, '_>, j: usize, x: Bindings, first: Option<usize>, page: &mut Page) {
     let s = spans(&r.dossier, j);
     let from = product(x.o, s.na);
     let end = product(x.o.saturating_add(1), s.na);
-    let mut next = first_of(first, end);
-    for _ in 0..SHOWN {
-        let Some(k) = next else {
-            return;
-        };
+    let say = |k: usize, page: &mut Page| {
         let b = k.saturating_sub(from);
         say_unrelated(
             r,
@@ -171,29 +169,27 @@ fn say_steps(
             page,
         );
         let step = abstract_step(&r.dossier, j, x.a, x.i, k.saturating_add(1));
-        next = first_of(step.number(), end);
-    }
-    if next.is_some() {
-        page.say(words::AND_MORE);
-    }
+        first_of(step.unwrap_or(None), end)
+    };
+    say_states(first_of(first, end), say, page);
 }
 
 // Which abstract steps there are with these outputs, or one with others.
-fn say_corrected(r: &ReadDossier<'_, '_>, j: usize, x: Bindings, page: &mut Page) {
+fn say_corrected(r: &ReadText<'_, '_>, j: usize, x: Bindings, page: &mut Page) {
     let s = spans(&r.dossier, j);
-    let first = abstract_step(&r.dossier, j, x.a, x.i, product(x.o, s.na)).number();
+    let first = abstract_step(&r.dossier, j, x.a, x.i, product(x.o, s.na)).unwrap_or(None);
     if first_of(first, product(x.o.saturating_add(1), s.na)).is_some() {
         page.say(words::ABSTRACT_STEPS);
         say_steps(r, j, x, first, page);
         return;
     }
-    if let Some(q) = abstract_step(&r.dossier, j, x.a, x.i, 0).number() {
+    if let Some(q) = abstract_step(&r.dossier, j, x.a, x.i, 0).unwrap_or(None) {
         let other = stepped(x, q, s.na);
         page.say_at(words::NO_ABSTRACT_STEP_WITH_THESE_OUTPUTS, j, other);
     }
 }
 
-pub fn say_correctness(r: &ReadDossier<'_, '_>, j: usize, place: usize, page: &mut Page) {
+pub fn say_correctness(r: &ReadText<'_, '_>, j: usize, place: usize, page: &mut Page) {
     let s = spans(&r.dossier, j);
     let x = corrected(place, s);
     say_binding(words::REFUTED_CORRECTNESS, j, x, page);

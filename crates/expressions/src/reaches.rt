@@ -23,6 +23,8 @@ impl Reach {
     }
 
     // With one more name bound, or its symbol is at fault.
+    // Form 2: `deeper` over the other field. One function for both would be handed count, limit and place and answer the count; each would still make its `Reach`, and there would be three
+    // contracts for two.
     pub(crate) fn with_name(self, name: usize) -> Result<Reach, Fault>
         ensures { Binds self name result }
     {

@@ -215,6 +215,8 @@ fn such(y: &Symbols<'_>, from: Read, reach: Reach, code: &mut [u16]) -> Result<R
 }
 
 // Behind the first term of {t, ..}.
+// Form 2: it ends as `pairs` does, } or a comma, a term and itself again. A function for both endings would be told by a flag which of the two it calls, and
+// promise by it what the machine expects there (`a_list` or `a_pairs`) and what is made (`some_items` or `some_pairs`).
 #[cycle(trees)]
 fn items(y: &Symbols<'_>, from: Read, reach: Reach, code: &mut [u16]) -> Result<Read, Fault>
     requires { Room y.now.kinds.now code.old from.at from.count }
@@ -317,6 +319,8 @@ fn pred_rest(
 }
 
 // The connective of the level l that stands behind a predicate, and its right side.
+// Form 4: `put` stands twice. With reach and level chosen by an `if` in front of one call (tried), the eight answers behind it are by cases, each with the two
+// that stand here: `deeper` and the promise of `pred_from` are of one branch alone.
 #[cycle(trees)]
 fn pred_more(
     y: &Symbols<'_>,

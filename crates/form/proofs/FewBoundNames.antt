@@ -50,14 +50,19 @@ unfolding kind_at
 bound (here e f) = record { at = 0; inside = omega arith; is_bound = e; followed = ap kind_of f }
 bound (there h) = let k = bound h in let l = k.inside in record { at = suc k.at; inside = omega arith; is_bound = k.is_bound; followed = k.followed }
 
+-- a count over its limit is refused
+pub over-limit : (limit n : ℕ) (r : Refusal) → limit < n → refuse (ltb limit n) r ≡ some r
+unfolding refuse
+over-limit limit n r l = ap (λ (b : Bool). refuse b r) (lt-ltb limit n l)
+
 bound-over : (n : ℕ) → 3 < n → (k s : Kind) (rest : List Symbol) → kind_at rest 0 ≡ kind.colon → settled k s rest (binds n) ≡ some deep
 unfolding settled excess is_used is code_of refuse
 bound-over n l k s rest e =
     ap (λ (c : Kind). cond (is k kind.open_brace && not (is c kind.colon)) none (refuse (ltb 3 n) deep)) e ∙ on (is k kind.open_brace)
   where
     on : (b : Bool) → cond (b && not (is kind.colon kind.colon)) none (refuse (ltb 3 n) deep) ≡ some deep
-    on true = ap (λ (c : Bool). refuse c deep) (lt-ltb 3 n l)
-    on false = ap (λ (c : Bool). refuse c deep) (lt-ltb 3 n l)
+    on true = over-limit 3 n deep l
+    on false = over-limit 3 n deep l
 
 -- no fourth bound name, nor one behind it
 abbrev Few : List Written → Type 0

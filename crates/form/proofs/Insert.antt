@@ -30,7 +30,7 @@ pub record PredMade (m : ℕ) (w : List Symbol → List Symbol) : Type 0 where
   pub same : (v : List Symbol) → plain_pred tree v ≡ w v
 
 -- the bounds of the levels
-operator-least : (o : Operator) → 1 ≤ operator_level o
+pub operator-least : (o : Operator) → 1 ≤ operator_level o
 operator-least plus = omega arith
 operator-least minus = omega arith
 operator-least union = omega arith
@@ -38,7 +38,7 @@ operator-least without = omega arith
 operator-least times = omega arith
 operator-least inter = omega arith
 
-operator_most : (o : Operator) → operator_level o ≤ 2
+pub operator_most : (o : Operator) → operator_level o ≤ 2
 operator_most plus = omega arith
 operator_most minus = omega arith
 operator_most union = omega arith
@@ -46,7 +46,7 @@ operator_most without = omega arith
 operator_most times = omega arith
 operator_most inter = omega arith
 
-term-least : (t : Term) → 1 ≤ term_level t
+pub term-least : (t : Term) → 1 ≤ term_level t
 term-least (number n) = omega arith
 term-least (name x) = omega arith
 term-least (group t) = omega arith

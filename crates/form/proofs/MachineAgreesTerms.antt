@@ -13,13 +13,14 @@ use Rattle.form.specs.Tree.{Term, number, name, group, prefix, binary, divided, 
 use Rattle.form.specs.Tree.{Pred, truth, falsity, negation, paren, quantified, connected, compared, member, within, related}
 use Rattle.form.specs.Written.{unmarked, opens, binds, Written, bare, opening, used, declared, digits, prefix_kind, operator_kind, division_kind, comparison_kind, membership_kind, quantifier_kind}
 use Rattle.form.specs.Written.{connective, minus_of, write_end, write_range, write_domain, write_term, write_items, write_pairs, write_pred}
-use Rattle.form.specs.Form.{operator_level, prefix_level, term_level, connective_level, not_level, pred_level, left_level, right_level, TermGrouped, ItemsGrouped, PairsGrouped, PredGrouped}
+use Rattle.form.specs.Form.{prefix_level, term_level, connective_level, not_level, pred_level, left_level, right_level, TermGrouped, ItemsGrouped, PairsGrouped, PredGrouped}
 use Rattle.form.specs.Machine.{Item, exact, a_declared, a_name, an_empty_rest, an_end, a_domain, a_term, an_operand, a_term_rest, a_rel, a_mem, a_right, a_first, a_list, a_pairs, a_unary, a_paren, a_pred_rest, go, step}
 use Rattle.form.specs.Computed.{compute_form}
 use Rattle.form.proofs.Takes.{range_end, Agrees}
 use Rattle.form.proofs.MachineAgreesStarts.{equally, taken_as, BehindPred, TermEnds, PredEnds, behind_operator, behind_division, behind_comparison, behind_membership, behind_maplet}
 use Rattle.form.proofs.MachineAgreesStarts.{behind_comma, behind_bracket, behind_brace, behind_paren, behind_connective, no_second, no_operator, term_ends}
 use Rattle.form.proofs.MachineAgreesStarts.{starts_term, starts_items, starts_pairs, starts_pred, as_term, alike_at_starts, as_unary, as_brace, as_right, in_paren}
+use Rattle.form.proofs.Insert.{operator_most}
 
 -- what is taken at an operator, a prefix, a comparison, a membership and a quantifier, each by its kinds
 operating : (o : Operator) (d b : ℕ) (γ : List Item) → step (a_term_rest d b ∷ γ) (operator_kind o) ≡ go unmarked (a_term d b ∷ γ)
@@ -126,15 +127,6 @@ data Room (t : Term) (d b : ℕ) : List Item → Type 0 where
   tight : {γ : List Item} → prefix_level ≤ term_level t → Room t d b γ
   loose : {γ : List Item} → Room t d b (a_term_rest d b ∷ γ)
 
--- a term with an operator is no operand
-operator_low : (o : Operator) → operator_level o ≤ 2
-operator_low plus = omega arith
-operator_low minus = omega arith
-operator_low union = omega arith
-operator_low without = omega arith
-operator_low times = omega arith
-operator_low inter = omega arith
-
 -- What is expected behind a predicate p at depth d, and that the symbols w are taken there: anything, if p binds as tightly as the operand of `not`; or
 -- the rest of a predicate that began at depth e. Behind p the machine stands at depth d if p is no =>, and may stand deeper if it is.
 data PredRoom (p : Pred) (d b : ℕ) (w : List Written) : List Item → Type 0 where
@@ -230,7 +222,7 @@ mutual
   term (prefix o t) g d b w f γ r h k =
       taken_as (opening (prefix_kind o) (suc d)) (write_term t (suc d) b w) (an_operand d b ∷ γ) (an_operand (suc d) b ∷ γ) (prefixing o d b γ)
       (term t g.1 (suc d) b w f γ (tight g.0) h) k
-  term (binary o t u) g d b w f γ (tight l) h k = absurd (let m = operator_low o in omega arith)
+  term (binary o t u) g d b w f γ (tight l) h k = absurd (let m = operator_most o in omega arith)
   term (binary o t u) g d b w f γ (loose {γ = δ}) h k =
       term t g.2 d b (bare (operator_kind o) ∷ write_term u d b w) (behind_operator o) (a_term_rest d b ∷ δ) loose
       (taken_as (bare (operator_kind o)) (write_term u d b w) (a_term_rest d b ∷ δ) (a_term d b ∷ δ) (operating o d b δ)

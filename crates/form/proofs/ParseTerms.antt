@@ -7,8 +7,8 @@ use native.Mathlib.Omega.{arith}
 use lib.ListN.{length}
 use Rattle.lexical.specs.Kinds as kind
 use Rattle.lexical.specs.Symbols.{Name, Symbol, fixed}
-use Rattle.form.specs.Tree.{End, Range, Prefix, Operator, plus, minus, union, without, times, inter, Division}
-use Rattle.form.specs.Tree.{Term, number, name, group, prefix, binary, divided, listed, pairs, such, empty_set, empty_pairs}
+use Rattle.form.specs.Tree.{End, Range, Prefix, Operator, Division}
+use Rattle.form.specs.Tree.{Term, number, name, group, prefix, binary, divided, empty_set, empty_pairs}
 use Rattle.form.specs.Written.{Written, bare, digits, operator_kind, division_kind, minus_of, write_end, write_range, write_term}
 use Rattle.form.specs.Form.{operator_level, division_level, prefix_level, term_level}
 use Rattle.form.specs.Parse.{got, parse_term, parse_term_rest, parse_operand, parse_end}
@@ -16,6 +16,7 @@ use Rattle.form.proofs.Takes.{symbols_in}
 use Rattle.form.proofs.ParseSteps.{first_of, term-begins, rest-stops, rest-operator, rest-division, reads_end, operand-number, operand-name, operand-group, operand_prefix}
 use Rattle.form.proofs.ParseSteps.{operand-empty, operand-empty-pairs}
 use Rattle.form.proofs.ParseStarts.{TermEnds, ends_above, bracket-ends, operator-ends, division-ends}
+use Rattle.form.proofs.Insert.{operator_most, term-least}
 
 -- reading the symbols v at the level l with the bound f, of a term with n symbols: t is read, and the reader goes on behind it at w
 pub record Spine (n f l : ℕ) (t : Term) (v w : List Symbol) : Type 0 where
@@ -41,32 +42,10 @@ reads-term t r f l d k w h e b =
     let s : Spine r.count f l t (symbols_in (write_term t d k w)) (symbols_in w) = r.spine f l d k w h (ends_above (omega arith) e) b in
     s.reads ∙ rest-stops s.bound l t (symbols_in w) e.level
 
--- the levels of operators and of terms
-operator-level : (o : Operator) → (1 ≤ operator_level o) × (operator_level o ≤ 2)
-operator-level plus = omega arith
-operator-level minus = omega arith
-operator-level union = omega arith
-operator-level without = omega arith
-operator-level times = omega arith
-operator-level inter = omega arith
-
-term-level : (t : Term) → 1 ≤ term_level t
-term-level (number n) = omega arith
-term-level (name x) = omega arith
-term-level (group t) = omega arith
-term-level (prefix o t) = omega arith
-term-level (binary o t u) = (operator-level o).0
-term-level (divided o t e) = omega arith
-term-level (listed ts) = omega arith
-term-level (pairs ts) = omega arith
-term-level (such x g p) = omega arith
-term-level (empty_set g) = omega arith
-term-level (empty_pairs g h) = omega arith
-
 -- a whole term before what ends it
 pub reads_whole : (t : Term) (r : TermRead t) (f d k : ℕ) (w : List Written) → TermEnds 1 (first_of (symbols_in w)) → 2 * r.count ≤ f
     → parse_term f 1 (symbols_in (write_term t d k w)) ≡ got t (symbols_in w)
-reads_whole t r f d k w e b = reads-term t r f 1 d k w (term-level t) e b
+reads_whole t r f d k w e b = reads-term t r f 1 d k w (term-least t) e b
 
 -- a term that is read as an operand is read as a term
 abbrev pub Operand : Term → ℕ → Type 0
@@ -152,7 +131,7 @@ binary-read o t u r s i j = record {
   count = 1 + r.count + s.count;
   some = omega arith;
   fits = λ d k w. omega (arith, r.fits d k (bare (operator_kind o) ∷ write_term u d k w), s.fits d k w);
-  operand = λ f l d k w h e b. absurd (omega (arith, operator-level o));
+  operand = λ f l d k w h e b. absurd (omega (arith, operator_most o));
   spine = λ f l d k w h e b.
       let p : Spine r.count f l t _ _ = r.spine f l d k (bare (operator_kind o) ∷ write_term u d k w) (omega arith) (ends_above (omega arith) (operator-ends o)) (omega arith) in
       operator-spine o t u r.count s.count f p.bound l _ _ (symbols_in w) h p.reads

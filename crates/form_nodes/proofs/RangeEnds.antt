@@ -15,7 +15,7 @@ use Rattle.lexical.specs.Kinds as kind
 use Rattle.lexical.specs.Kinds.{Kind, code_of, lookup, is}
 use Rattle.lexical.specs.Symbols.{Symbol, fixed, kind_of}
 use Rattle.refusals.specs.Refusals.{Refusal, deep}
-use Rattle.form.proofs.LexicalBooleanTests.{and-right-false}
+use Rattle.form.proofs.LexicalBooleanTests.{both-true, and-right-false}
 use Rattle.form.specs.Written.{opens, binds}
 use Rattle.form.specs.Form.{kind_at, is_range_end, is_used, settled, excess, refuse}
 use Rattle.form_nodes.specs.FormPromises.{codes, range_end_at, RangeEnd, range_below, Members, Ranged, positive, negative, unranged}
@@ -78,11 +78,6 @@ no_third : (a b y z : Bool) → five a b false y z ≡ false
 no_third true true y z = refl
 no_third true false y z = refl
 no_third false b y z = refl
-
--- -, a number and .., together and each
-both-true : (a b : Bool) → (a && b) ≡ true → (a ≡ true) × (b ≡ true)
-both-true true b q = (refl, q)
-both-true false b q = absurd (false≢true q)
 
 pub below-parts : (s : List ℕ) (at : ℕ) → range_below s at ≡ true → (get_or s at 0 ≡ 29) × ((get_or s (at + 1) 0 ≡ 1) × (get_or s (at + 2) 0 ≡ 21))
 unfolding range_below

@@ -69,7 +69,9 @@ pub fn start_of(k: u8) -> Option<Start>
 }
 
 // The levels of operators and of connectives.
-// Form 1: levels are compared, and a right side has operators and connectives of the levels above one (`above` in expressions): numbers, no kinds.
+// Form 1: numbers, since a right side has operators and connectives of the levels above one (`above` in expressions). Of a connective the level is all that is
+// asked: `connective_at` compares it, `pred_more` hands it on, and tells => from the others by it. An enum would be turned into it for the first two, by a method
+// of four arms, and spare one clause, `1 ≤ l` of `pred_more`.
 pub const LOOSE: u8 = 1;
 
 pub const TIGHT: u8 = 2;

@@ -25,15 +25,16 @@ const LAST_SYMBOL: u16 = SYMBOLS as u16 - 1;
 const PLAIN: u16 = codes::PLAIN as u16;
 
 // A node behind the first n numbers.
-// Form 2: `set_node` of table_nodes is the same copy, one call of the library in both. One function would stand in `form`, below both, with its definition
-// (`patch`); here would stay a function that answers the place behind, and a law more, from `patch` to `Writes`, where none is needed now.
+// Form 4: four stores; by `copy_from_slice` of an array of the four numbers `read` takes 1.05 to 1.10 of the time (the six texts of tests/speed).
 pub fn put(code: &mut [u16], n: usize, shape: u16, place: usize, x: u16, y: u16) -> usize
     requires { (n + 4 ≤ length code.old) × (place < 65536) }
     ensures { Writes code.old n (node shape place x y) code.new result }
 {
-    let end = n + node::SIZE;
-    code[n..end].copy_from_slice(&[y, x, place as u16, shape]);
-    end
+    code[n] = y;
+    code[n + node::A] = x;
+    code[n + node::PLACE] = place as u16;
+    code[n + node::SHAPE] = shape;
+    n + node::SIZE
 }
 
 // The number of a name: of its letters, and its ending.

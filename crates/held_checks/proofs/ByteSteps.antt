@@ -1,19 +1,17 @@
 -- What the functions that read and write the held bytes count on: numbers byte by byte, zeros, a text copied, a mark that fits.
 use mathlib.Core.Path.{◌≡◌, refl, sym, ap, ap₂, ◌∙◌}
-use mathlib.Core.Bool.{Bool, ◌&&◌}
+use mathlib.Core.Bool.{◌&&◌}
 use mathlib.Core.List.{List, [], ◌∷◌, ◌++◌}
-use Prim.Native.Nat.{ℕ, zero, suc, ◌+◌, ◌-◌, ◌*◌, ◌/◌, ◌%◌, ◌^◌, ◌≤◌, ◌<◌}
+use Prim.Native.Nat.{ℕ, zero, suc, ◌+◌, ◌-◌, ◌*◌, ◌/◌, ◌%◌, ◌^◌, ◌≤◌}
 use native.Mathlib.Omega.{arith}
 use native.Mathlib.Nat.{pow-suc, div-div-eq-div-mul}
 use lib.Dec.{eqb, leb, ltb}
-use borrow.Author.Tests.{lt-ltb}
-use lib.ListN.{length, length-append, length-replicate, length-take, length-drop, take, drop, get_or, replicate}
-use lib.Seq.{drop-cons, drop-drop, take_all}
+use lib.ListN.{length, length-append, length-replicate, length-drop, take, drop, replicate}
+use lib.Seq.{drop-drop, length-take-le, take_all}
 use borrow.Rule.Slice.PartMut.{put_mid}
 use Rattle.table_nodes.specs.TableWalkPromises.{patch}
 use Rattle.std.specs.Int.{w64, to_le_bytes, from_le_bytes, bytes_low_first}
 use Rattle.held_checks.specs.HeldBytes.{little_endian, from_bytes, fitting}
-use Rattle.held_checks.specs.BytePromises.{NumberAt}
 use Rattle.lexical.proofs.BooleanTests.{or-none}
 
 -- the number that bytes are: the library's of eight bytes, no more than the bytes tell, and the same with zeros behind them
@@ -46,26 +44,11 @@ unfolding from_bytes
 zeros_behind [] z e = e
 zeros_behind (b ∷ w) z e = ap (λ (x : ℕ). b + 256 * x) (zeros_behind w z e)
 
-number-small : (n at : ℕ) (b : List ℕ) → at + n ≤ length b → ((i : ℕ) → get_or b i 0 < 256) → from_bytes (take n (drop at b)) < 256 ^ n
-unfolding from_bytes
-number-small zero at b h k = omega arith
-number-small (suc n) at b h k =
-    let rest = number-small n (suc at) b (omega arith) k in
-    let p = pow-suc 256 n in
-    let first = k at in
-    let e : from_bytes (take (suc n) (drop at b)) ≡ get_or b at 0 + 256 * from_bytes (take n (drop (suc at) b)) =
-    ap (λ (w : List ℕ). from_bytes (take (suc n) w)) (drop-cons b at 0 (omega arith)) in
-    omega arith
-
-pub number-read : (b v : List ℕ) (at n r : ℕ) → at + n ≤ length b → n ≤ 8 → ((i : ℕ) → get_or b i 0 < 256) → v ≡ take (at + n - at) (drop at b)
-    → r ≡ from_le_bytes w64 (v ++ drop n (replicate {A = ℕ} 8 0)) → NumberAt b at n r
-number-read b v at n r h m k e f =
-    let zeros = drop n (replicate {A = ℕ} 8 0) in
-    let c : at + n - at ≡ n = omega arith in
-    let whole : length (v ++ zeros) ≡ 8 =
-    omega (arith, length-append v zeros, ap length e, length-take (at + n - at) (drop at b), length-drop at b, length-drop n (replicate {A = ℕ} 8 0), length-replicate {A = ℕ} 8 0) in
-    let is : r ≡ from_bytes (take n (drop at b)) = f ∙ read-eight (v ++ zeros) whole ∙ zeros_behind v zeros (zeros_none n 8) ∙ ap from_bytes e ∙ ap (λ (k : ℕ). from_bytes (take k (drop at b))) c in
-    record { is = is; small = omega (arith, number-small n at b h k) }
+pub number-read : (b v : List ℕ) (r : ℕ) → length b ≤ 8 → v ≡ b → r ≡ from_le_bytes w64 (v ++ drop (length b) (replicate {A = ℕ} 8 0)) → r ≡ from_bytes b
+number-read b v r m e f =
+    let zeros = drop (length b) (replicate {A = ℕ} 8 0) in
+    let whole : length (v ++ zeros) ≡ 8 = omega (arith, length-append v zeros, ap length e, length-drop (length b) (replicate {A = ℕ} 8 0), length-replicate {A = ℕ} 8 0) in
+    f ∙ read-eight (v ++ zeros) whole ∙ zeros_behind v zeros (zeros_none (length b) 8) ∙ ap from_bytes e
 
 -- a number in bytes: the first n of the library's eight
 low-bytes : (m k x : ℕ) → bytes_low_first (suc k) m x ≡ little_endian m (x / 256 ^ suc k)
@@ -93,13 +76,13 @@ laid-at at n piece b e l =
     let f : at + n - at ≡ length piece = omega arith in
     ap₂ (λ (v u : List ℕ). take at b ++ (v ++ u)) e (drop-drop (at + n - at) at b ∙ ap (λ (k : ℕ). drop (at + k) b) f)
 
-pub number-put : (b w bytes : List ℕ) (at n x : ℕ) → n ≤ 8 → bytes ≡ to_le_bytes w64 x → w ≡ take n bytes
-    → put_mid at (at + n - at) b w ≡ patch at (little_endian n x) b
+pub number-put : (bytes : List ℕ) (n x : ℕ) → n ≤ 8 → bytes ≡ to_le_bytes w64 x → take n bytes ≡ little_endian n x
 unfolding little_endian
-number-put b w bytes at n x h e f =
-    laid-at at n (little_endian n x) b
-    (f ∙ ap (take n) (e ∙ ap (λ (v : List ℕ). (x % 256) ∷ v) (low-bytes 7 0 x)) ∙ first-bytes n 8 x h)
-    (little_length n x)
+number-put bytes n x h e = ap (take n) (e ∙ ap (λ (v : List ℕ). (x % 256) ∷ v) (low-bytes 7 0 x)) ∙ first-bytes n 8 x h
+
+pub number-laid : (at n x : ℕ) (b : List ℕ) {w : List ℕ} → at + n ≤ length b → w ≡ little_endian (length (take n (drop at b))) x → put_mid at (at + n - at) b w ≡ patch at (little_endian n x) b
+number-laid at n x b h e =
+    laid-at at n (little_endian n x) b (e ∙ ap (λ (k : ℕ). little_endian k x) (length-take-le n (drop at b) (omega (arith, h, length-drop at b)))) (little_length n x)
 
 -- the bytes from a place on
 pub rest-is : (b : List ℕ) (k : ℕ) → take (length b - k) (drop k b) ≡ drop k b
@@ -114,10 +97,6 @@ pub fits-accepted : (n p m : ℕ) → m ≡ 2 → eqb p n ≡ fitting n p m
 unfolding fitting
 fits-accepted n p m e = sym (ap (fitting n p) e ∙ or-none (eqb p n))
 
-pub fits-first : (n p m : ℕ) → m ≡ 3 → p ≡ 0 → ltb 0 p ≡ fitting n p m
+pub fits-refuted : (n p m : ℕ) → m ≡ 3 → leb 1 p && leb p n ≡ fitting n p m
 unfolding fitting
-fits-first n p m e z = ap (ltb 0) z ∙ sym (ap₂ (λ (q k : ℕ). fitting n q k) z e)
-
-pub fits-refuted : (n p m : ℕ) → m ≡ 3 → (p ≡ 0 → ⊥) → leb p n ≡ fitting n p m
-unfolding fitting
-fits-refuted n p m e ne = sym (ap (fitting n p) e ∙ ap (λ (b : Bool). b && leb p n) (lt-ltb 0 p (omega arith)))
+fits-refuted n p m e = sym (ap (fitting n p) e)

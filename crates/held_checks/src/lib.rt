@@ -7,7 +7,7 @@ ghost use Rattle.std.specs.Prelude.{◌≡◌, ◌+◌, ◌-◌, ◌^◌, ◌<�
 ghost use Rattle.std.specs.Result.{result_ok};
 ghost use Rattle.table_nodes.specs.TableWalkPromises.{patch};
 ghost use Rattle.held_checks.specs.HeldBytes.{little_endian, from_bytes, bytes_of, none_held, is_laid, held_mark, held_place, fitting};
-ghost use Rattle.held_checks.specs.BytePromises.{NumberAt, all_zero, Turned};
+ghost use Rattle.held_checks.specs.BytePromises.{all_zero, Turned};
 ghost use Rattle.held_checks.specs.declared.LoadRefusal.TheVariants.{Faulty};
 ghost use Rattle.held_checks.specs.StepPromises.{Marks, mark_byte, Tells, place_after, mark_after, PartTold};
 
@@ -69,20 +69,16 @@ impl From<Fault> for LoadRefusal {
 // How far a held check is; each has a byte, and where nothing is held that byte is 0.
 #[derive(Clone, Copy, PartialEq, Eq)]
 pub enum Mark {
-    Unfinished,
-    Accepted,
-    Refuted,
+    Unfinished = 1,
+    Accepted = 2,
+    Refuted = 3,
 }
 
 impl From<Mark> for u8 {
     ghost from_gives = { λ mark byte. byte ≡ mark_byte mark };
 
     fn from(mark: Mark) -> u8 {
-        match mark {
-            Mark::Unfinished => 1,
-            Mark::Accepted => 2,
-            Mark::Refuted => 3,
-        }
+        mark as u8
     }
 }
 
@@ -105,23 +101,23 @@ impl TryFrom<u8> for Mark {
     }
 }
 
-// The number in n bytes.
-fn number(held: &[u8], at: usize, n: usize) -> usize
-    requires { (at + n ≤ length held.now) × (n ≤ 8) }
-    ensures { NumberAt held.now at n result }
+// The number in up to eight bytes.
+fn number(bytes: &[u8]) -> usize
+    requires { length bytes.now ≤ 8 }
+    ensures { result ≡ from_bytes bytes.now }
 {
-    let mut bytes = [0u8; 8];
-    bytes[..n].copy_from_slice(&held[at..at + n]);
-    usize::from_le_bytes(bytes)
+    let mut eight = [0u8; 8];
+    eight[..bytes.len()].copy_from_slice(bytes);
+    usize::from_le_bytes(eight)
 }
 
-// A number is written in n bytes, as `number` reads it.
-fn put_number(held: &mut [u8], at: usize, n: usize, x: usize)
-    requires { (at + n ≤ length held.old) × (n ≤ 8) }
-    ensures { held.new ≡ patch at (little_endian n x) held.old }
+// A number is written over up to eight bytes, as `number` reads it.
+fn put_number(bytes: &mut [u8], x: usize)
+    requires { length bytes.old ≤ 8 }
+    ensures { bytes.new ≡ little_endian (length bytes.old) x }
 {
-    let bytes = x.to_le_bytes();
-    held[at..at + n].copy_from_slice(&bytes[..n]);
+    let n = bytes.len();
+    bytes.copy_from_slice(&x.to_le_bytes()[..n]);
 }
 
 // All bytes are 0.
@@ -135,13 +131,13 @@ fn are_zero(bytes: &[u8]) -> bool
 pub fn length_in(held: &[u8; HELD]) -> usize
     ensures { result ≡ from_bytes (take 4 (drop 4 held.now)) }
 {
-    number(held, LENGTH, LENGTH_BYTES)
+    number(&held[LENGTH..LENGTH + LENGTH_BYTES])
 }
 
 pub fn place_in(held: &[u8; HELD]) -> usize
     ensures { result ≡ held_place held.now }
 {
-    number(held, PLACE, PLACE_BYTES)
+    number(&held[PLACE..PLACE + PLACE_BYTES])
 }
 
 // The bytes have the layout: spare bytes 0, and zeros behind the text.
@@ -166,7 +162,7 @@ pub fn fits(all: usize, place: usize, mark: Mark) -> bool
     match mark {
         Mark::Unfinished => place < all,
         Mark::Accepted => place == all,
-        Mark::Refuted => 0 < place && place <= all,
+        Mark::Refuted => (1..=all).contains(&place),
     }
 }
 
@@ -192,7 +188,7 @@ pub fn lay(text: &[u8], held: &mut [u8; HELD])
 {
     clear(held);
     held[MARK] = Mark::Unfinished.into();
-    put_number(held, LENGTH, LENGTH_BYTES, text.len());
+    put_number(&mut held[LENGTH..LENGTH + LENGTH_BYTES], text.len());
     put_text(text, held);
 }
 
@@ -201,7 +197,7 @@ fn turn(held: &mut [u8; HELD], place: usize, mark: Mark)
     ensures { Turned held.old place (mark_byte mark) held.new }
 {
     held[MARK] = mark.into();
-    put_number(held, PLACE, PLACE_BYTES, place);
+    put_number(&mut held[PLACE..PLACE + PLACE_BYTES], place);
 }
 
 // The place after a search up to an end: behind the binding that failed, if one did.

@@ -1,11 +1,9 @@
 -- Free tests: a test whose nodes are free of a slot of the state before does not depend on its variable; one that is asked of the state after never does. Assumes nothing.
 use mathlib.Core.Path.{◌≡◌, refl, sym, ap, ap₂, subst, ◌∙◌}
-use mathlib.Core.Bool.{Bool, cond}
+use mathlib.Core.Bool.{Bool}
 use mathlib.Core.List.{List, [], ◌∷◌}
 use Prim.Native.Nat.{ℕ, zero, suc, ◌+◌, ◌/◌, ◌%◌, ◌<◌, ◌≤◌}
-use native.Mathlib.Decide.{dec_lt}
 use native.Mathlib.Omega.{arith}
-use lib.Dec.{ltb}
 use lib.ListN.{get_or, length}
 use lib.IntN.{ℤ, pos}
 use Rattle.slot_carriers.specs.Cells.{value_in}
@@ -14,6 +12,7 @@ use Rattle.mentions.specs.MentionPromises.{Agree, TruthFree}
 use Rattle.points.specs.Points.{Point, moved, primed_slot, Tame, Shows}
 use Rattle.points.specs.PointTests.{Test}
 use Rattle.points.proofs.PointNumbers.{moved_other, tame-moved}
+use Rattle.points.proofs.PointBindings.{primed-high}
 use Rattle.mentions.proofs.OneValue.{one_value}
 use Rattle.idle_variables.specs.KeyedNumbers.{Idle}
 
@@ -80,14 +79,6 @@ module _ (cells : List ℕ) where
     where
       plus : (s : ℕ) → 0 + s ≡ s
       plus s = omega arith
-
-  primed-high : (t : ℕ) → 22 ≤ primed_slot t
-  unfolding primed_slot
-  primed-high t = go (dec_lt t 8)
-    where
-      go : Dec (t < 8) → 22 ≤ cond (ltb t 8) (t + 30) (t + 14)
-      go (yes h) = subst (λ (b : Bool). 22 ≤ cond b (t + 30) (t + 14)) (sym (borrow.Author.Tests.lt-ltb t 8 h)) (omega arith)
-      go (no h) = subst (λ (b : Bool). 22 ≤ cond b (t + 30) (t + 14)) (sym (borrow.Author.Tests.le-ltb t 8 (omega arith))) (omega arith)
 
   module _ {table : List ℕ} {e : ℕ} {f : Point → Bool} (w : Test table cells e f) (s : ℕ) (low : s < 22) where
     -- what the nodes give at two points is the same

@@ -1,8 +1,8 @@
 -- Idle searches: a variable on which no test of a search depends does not matter for what it finds. Assumes nothing.
-use mathlib.Core.Path.{◌≡◌, refl, sym, ap, ap₂, subst, ◌∙◌}
+use mathlib.Core.Path.{◌≡◌, refl, sym, ap₂, subst, ◌∙◌}
 use mathlib.Core.Bool.{Bool, true, false, ◌&&◌}
 use mathlib.Core.List.{List, [], ◌∷◌}
-use Prim.Native.Nat.{ℕ, zero, suc, ◌+◌, ◌*◌, ◌/◌, ◌%◌, ◌<◌, ◌≤◌}
+use Prim.Native.Nat.{ℕ, zero, suc, ◌+◌, ◌/◌, ◌%◌, ◌<◌, ◌≤◌}
 use native.Mathlib.Omega.{arith}
 use lib.ListN.{get_or, length}
 use Rattle.lexical.specs.Lists.{all}
@@ -13,7 +13,7 @@ use Rattle.points.specs.Points.{Point, Tame}
 use Rattle.points.specs.Searches.{level_holds, levels_hold, mark_in, TestsAt, no_tests, more_tests, SearchOf}
 use Rattle.points.proofs.PointNumbers.{tame-moved}
 use Rattle.idle_variables.specs.KeyedNumbers.{Idle, Ignores, no_variables, more_variables}
-use Rattle.idle_variables.specs.IdlePromises.{TestIdle, LevelIdle, SearchIdle, TestSays, LevelSays, SearchSays, PlanAsked}
+use Rattle.idle_variables.specs.IdlePromises.{TestIdle, LevelIdle, SearchIdle, TestSays, LevelSays, SearchSays}
 use Rattle.idle_variables.proofs.FreeTests.{before-idle, after-idle}
 
 -- ---- one test
@@ -38,9 +38,6 @@ level-passes l t = t.means refl
 
 pub search-passes : {table plan : List ℕ} {slot : ℕ} (u : ℕ) → SearchSays table plan u slot true → SearchIdle table plan u slot
 search-passes u t = t.means refl
-
-pub level_asked : {plan : List ℕ} {u slot : ℕ} → (u < 5) × (slot < 22) → PlanAsked plan → (l : ℕ) → l < 12 → (u < 5) × (l < 12) × (slot < 22) × (mark_in plan u (l + 1) ≤ 20560)
-level_asked {u = u} h a l g = (h.0, g, h.1, a.marks u (l + 1) h.0 (omega arith))
 
 both : Bool → Bool → Bool
 both b c = elim b [ true ↦ c | false ↦ false ]

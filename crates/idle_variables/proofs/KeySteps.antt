@@ -54,61 +54,61 @@ key-front cells s ss idle x = refl
 
 -- the slots behind the first
 abbrev pub behind : KeyGroup → List ℕ
-behind g = upward (g.first + 1) (g.many - 1)
+behind g = upward (g.first + 1) (g.size.variables - 1)
 
 module _ {cells : List ℕ} {g : KeyGroup} (q : KeyAsked cells g) where
-  pub no_idle : (x : ℕ) → x < g.count → g.idle ≡ 0 → x ≡ key_in cells g x
+  pub no_idle : (x : ℕ) → x < g.size.bindings → g.idle ≡ 0 → x ≡ key_in cells g x
   no_idle x h e =
-      sym (ap (λ (i : ℕ). keyed cells (upward g.first g.many) i x) e
-      ∙ plain-key cells (upward g.first g.many) x q.some (subst (λ (n : ℕ). x < n) q.count h))
+      sym (ap (λ (i : ℕ). keyed cells (upward g.first g.size.variables) i x) e
+      ∙ plain-key cells (upward g.first g.size.variables) x q.some (subst (λ (n : ℕ). x < n) q.count h))
 
-  pub key-low : (x : ℕ) → x < g.count → key_in cells g x < g.count
+  pub key-low : (x : ℕ) → x < g.size.bindings → key_in cells g x < g.size.bindings
   key-low x h =
       subst (λ (n : ℕ). key_in cells g x < n) (sym q.count)
-      (keyed-low cells (upward g.first g.many) g.idle x q.some (subst (λ (n : ℕ). x < n) q.count h))
+      (keyed-low cells (upward g.first g.size.variables) g.idle x q.some (subst (λ (n : ℕ). x < n) q.count h))
 
-  module _ (n : g.many ≡ 0 → ⊥) {d : ℕ} (k : d ≡ count_in cells g.first) where
+  module _ (n : g.size.variables ≡ 0 → ⊥) {d : ℕ} (k : d ≡ count_in cells g.first) where
     some : Counts cells (g.first ∷ behind g)
-    some = subst (Counts cells) (upward-front g.first g.many n) q.some
+    some = subst (Counts cells) (upward-front g.first g.size.variables n) q.some
 
     pub count-some : 0 < d
     count-some = subst (λ (x : ℕ). 0 < x) (sym k) (counts-first cells g.first (behind g) some)
 
-    whole : g.count ≡ d * span cells (behind g)
-    whole = q.count ∙ ap (span cells) (upward-front g.first g.many n) ∙ span-front cells g.first (behind g) ∙ ap (λ (x : ℕ). x * span cells (behind g)) (sym k)
+    whole : g.size.bindings ≡ d * span cells (behind g)
+    whole = q.count ∙ ap (span cells) (upward-front g.first g.size.variables n) ∙ span-front cells g.first (behind g) ∙ ap (λ (x : ℕ). x * span cells (behind g)) (sym k)
 
-    rest-is : g.count / d ≡ span cells (behind g)
-    rest-is = by_first g.count d (span cells (behind g)) count-some whole
+    rest-is : g.size.bindings / d ≡ span cells (behind g)
+    rest-is = by_first g.size.bindings d (span cells (behind g)) count-some whole
 
-    pub rest_some : 0 < g.count / d
+    pub rest_some : 0 < g.size.bindings / d
     rest_some = subst (λ (x : ℕ). 0 < x) (sym rest-is) (span-some cells (behind g) (counts-rest cells g.first (behind g) some))
 
-    pub rest-few : g.count / d ≤ 4096
-    rest-few = few g.count d (g.count / d) count-some (whole ∙ ap (λ (x : ℕ). d * x) (sym rest-is)) q.few
+    pub rest-few : g.size.bindings / d ≤ 4096
+    rest-few = few g.size.bindings d (g.size.bindings / d) count-some (whole ∙ ap (λ (x : ℕ). d * x) (sym rest-is)) q.few
       where
         few : (w d v : ℕ) → 0 < d → w ≡ d * v → w ≤ 4096 → v ≤ 4096
         few w zero v h e l = absurd (omega arith)
         few w (suc d) v h e l = omega arith
 
-    pub rest-asked : (i : ℕ) → KeyAsked cells (record { first = g.first + 1; many = g.many - 1; count = g.count / d; idle = i })
+    pub rest-asked : (i : ℕ) → KeyAsked cells (record { first = g.first + 1; size = record { variables = g.size.variables - 1; bindings = g.size.bindings / d }; idle = i })
     rest-asked i = record { low = omega (arith, q.low, n); count = rest-is; some = counts-rest cells g.first (behind g) some; few = rest-few }
 
-    module _ (x : ℕ) {y : ℕ} (r : y ≡ keyed cells (behind g) (g.idle / 2) (x % (g.count / d))) where
-      whole-key : key_in cells g x ≡ cond (has g.idle 0) 0 (x / (g.count / d)) * (g.count / d) + y
+    module _ (x : ℕ) {y : ℕ} (r : y ≡ keyed cells (behind g) (g.idle / 2) (x % (g.size.bindings / d))) where
+      whole-key : key_in cells g x ≡ cond (has g.idle 0) 0 (x / (g.size.bindings / d)) * (g.size.bindings / d) + y
       whole-key =
-          ap (λ (ss : List ℕ). keyed cells ss g.idle x) (upward-front g.first g.many n)
+          ap (λ (ss : List ℕ). keyed cells ss g.idle x) (upward-front g.first g.size.variables n)
           ∙ key-front cells g.first (behind g) g.idle x
           ∙ ap (λ (w : ℕ). cond (has g.idle 0) 0 (x / w) * w + keyed cells (behind g) (g.idle / 2) (x % w)) (sym rest-is)
-          ∙ ap (λ (z : ℕ). cond (has g.idle 0) 0 (x / (g.count / d)) * (g.count / d) + z) (sym r)
+          ∙ ap (λ (z : ℕ). cond (has g.idle 0) 0 (x / (g.size.bindings / d)) * (g.size.bindings / d) + z) (sym r)
 
       pub key-idle : g.idle % 2 ≡ 1 → y ≡ key_in cells g x
-      key-idle o = sym (whole-key ∙ ap (λ (b : Bool). cond b 0 (x / (g.count / d)) * (g.count / d) + y) (has-zero g.idle ∙ eq-eqb _ _ o) ∙ nothing (g.count / d) y)
+      key-idle o = sym (whole-key ∙ ap (λ (b : Bool). cond b 0 (x / (g.size.bindings / d)) * (g.size.bindings / d) + y) (has-zero g.idle ∙ eq-eqb _ _ o) ∙ nothing (g.size.bindings / d) y)
         where
           nothing : (v y : ℕ) → 0 * v + y ≡ y
           nothing v y = omega arith
 
-      pub key-kept : (g.idle % 2 ≡ 1 → ⊥) → x / (g.count / d) * (g.count / d) + y ≡ key_in cells g x
-      key-kept o = sym (whole-key ∙ ap (λ (b : Bool). cond b 0 (x / (g.count / d)) * (g.count / d) + y) (has-zero g.idle ∙ ne_eqb _ _ o))
+      pub key-kept : (g.idle % 2 ≡ 1 → ⊥) → x / (g.size.bindings / d) * (g.size.bindings / d) + y ≡ key_in cells g x
+      key-kept o = sym (whole-key ∙ ap (λ (b : Bool). cond b 0 (x / (g.size.bindings / d)) * (g.size.bindings / d) + y) (has-zero g.idle ∙ ne_eqb _ _ o))
 
 empty-span : (cells : List ℕ) (s m : ℕ) → m ≡ 0 → span cells (upward s m) ≡ 1
 unfolding span upward
@@ -118,22 +118,22 @@ empty-span cells s (suc m) e = absurd (omega arith)
 -- ---- the digits one after the other: the key so far, and what is left of the number
 
 abbrev pub group_from : (i left stride idle : ℕ) → KeyGroup
-group_from i left stride idle = record { first = i; many = left; count = stride; idle = idle }
+group_from i left stride idle = record { first = i; size = record { variables = left; bindings = stride }; idle = idle }
 
 pub record Keying (cells : List ℕ) (g : KeyGroup) (x i stride idle rest key : ℕ) : Type 0 where
   pub left : ℕ
-  pub ends : i + left ≡ g.first + g.many
+  pub ends : i + left ≡ g.first + g.size.variables
   pub asked : KeyAsked cells (group_from i left stride idle)
   pub low : rest < stride
   pub total : key + key_in cells (group_from i left stride idle) rest ≡ key_in cells g x
 
-pub keying-start : {cells : List ℕ} {g : KeyGroup} (q : KeyAsked cells g) {x : ℕ} → x < g.count → Keying cells g x g.first g.count g.idle x 0
-keying-start {cells} {g} q {x} h = record { left = g.many; ends = refl; asked = q; low = h; total = z }
+pub keying-start : {cells : List ℕ} {g : KeyGroup} (q : KeyAsked cells g) {x : ℕ} → x < g.size.bindings → Keying cells g x g.first g.size.bindings g.idle x 0
+keying-start {cells} {g} q {x} h = record { left = g.size.variables; ends = refl; asked = q; low = h; total = z }
   where
     z : 0 + key_in cells g x ≡ key_in cells g x
     z = omega arith
 
-module _ {cells : List ℕ} {g : KeyGroup} (q : KeyAsked cells g) {x i stride idle rest key : ℕ} (h : x < g.count) (k : Keying cells g x i stride idle rest key) where
+module _ {cells : List ℕ} {g : KeyGroup} (q : KeyAsked cells g) {x i stride idle rest key : ℕ} (h : x < g.size.bindings) (k : Keying cells g x i stride idle rest key) where
   -- where none is idle that is left, and where none is left
   whole-number : rest ≡ key_in cells (group_from i k.left stride idle) rest → key + rest ≡ key_in cells g x
   whole-number e = ap (λ (y : ℕ). key + y) e ∙ k.total
@@ -141,16 +141,16 @@ module _ {cells : List ℕ} {g : KeyGroup} (q : KeyAsked cells g) {x i stride id
   pub keyed-early : idle ≡ 0 → key + rest ≡ key_in cells g x
   keyed-early e = whole-number (no_idle k.asked rest k.low e)
 
-  pub keyed-late : g.first + g.many ≤ i → key + rest ≡ key_in cells g x
+  pub keyed-late : g.first + g.size.variables ≤ i → key + rest ≡ key_in cells g x
   keyed-late e = whole-number (none-left k.left (omega (arith, k.ends, e)) k.asked)
     where
       none-left : (m : ℕ) → m ≡ 0 → KeyAsked cells (group_from i m stride idle) → rest ≡ key_in cells (group_from i m stride idle) rest
       none-left m e a = omega (arith, k.low, a.count, empty-span cells i m e, empty-key cells i m idle rest e)
 
-  pub key-bound : {y : ℕ} → y ≡ key_in cells g x → y < g.count
-  key-bound e = subst (λ (z : ℕ). z < g.count) (sym e) (key-low q x h)
+  pub key-bound : {y : ℕ} → y ≡ key_in cells g x → y < g.size.bindings
+  key-bound e = subst (λ (z : ℕ). z < g.size.bindings) (sym e) (key-low q x h)
 
-  module _ (more : i < g.first + g.many) where
+  module _ (more : i < g.first + g.size.variables) where
     pub left-some : k.left ≡ 0 → ⊥
     left-some e = omega (arith, k.ends, more, e)
 

@@ -9,18 +9,18 @@ use Rattle.idle_variables.specs.KeyedNumbers.{keyed}
 
 -- the key of the x-th binding of a group
 abbrev pub key_in : List ℕ → KeyGroup → (x : ℕ) → ℕ
-key_in cells g x = keyed cells (upward g.first g.many) g.idle x
+key_in cells g x = keyed cells (upward g.first g.size.variables) g.idle x
 
 -- asked: the variables of the group have values, and few bindings
 pub record KeyAsked (cells : List ℕ) (g : KeyGroup) : Type 0 where
-  pub low : g.first + g.many ≤ 64
-  pub count : g.count ≡ span cells (upward g.first g.many)
-  pub some : (s : ℕ) → Among s (upward g.first g.many) → 0 < count_in cells s
-  pub few : g.count ≤ 4096
+  pub low : g.first + g.size.variables ≤ 64
+  pub count : g.size.bindings ≡ span cells (upward g.first g.size.variables)
+  pub some : (s : ℕ) → Among s (upward g.first g.size.variables) → 0 < count_in cells s
+  pub few : g.size.bindings ≤ 4096
 
 -- yes: the mark of the x-th binding stands at its key; no says nothing
 pub record MarkSays (cells : List ℕ) (g : KeyGroup) (x mark : ℕ) (marks : List ℕ) (r : Bool) : Type 0 where
-  pub low : r ≡ true → x < g.count
+  pub low : r ≡ true → x < g.size.bindings
   pub stands : r ≡ true → get_or marks (key_in cells g x) 0 ≡ mark
 
 -- no mark is made unless it may be, and no other place changes. That one is made is left open: to forget is always right, it only has a block looked at again

@@ -5,32 +5,32 @@
 ghost use Rattle.std.specs.Prelude.{◌≡◌, ◌<◌, set};
 ghost use Rattle.idle_variables.specs.KeyPromises.{key_in, KeyAsked, MarkSays, Within};
 
+use plans::GroupSize;
 use slot_carriers::{CELLS, count_of};
 
 // How many places there are for marks: no state has more bindings.
 pub const KEYS: usize = 4096;
 
-// A group of variables: its first slot, how many they are, how many bindings they have, and which are idle, as bits, the first one's lowest.
+// A group of variables: its first slot, its size, and which of them are idle, as bits, the first one's lowest.
 #[derive(Clone, Copy)]
 pub struct KeyGroup {
     pub first: usize,
-    pub many: usize,
-    pub count: usize,
+    pub size: GroupSize,
     pub idle: u64,
 }
 
 // The key of the x-th binding.
 pub fn key_at(cells: &[u32; CELLS], g: KeyGroup, x: usize) -> usize
     requires key_asked { KeyAsked cells.now g }
-    requires x_lt_count { x < g.count }
+    requires x_lt_count { x < g.size.bindings }
     ensures is { result ≡ key_in cells.now g x }
-    ensures low { result < g.count }
+    ensures low { result < g.size.bindings }
 {
-    let mut stride = g.count;
+    let mut stride = g.size.bindings;
     let mut idle = g.idle;
     let mut rest = x;
     let mut key = 0;
-    for slot in g.first..g.first + g.many {
+    for slot in g.first..g.first + g.size.variables {
         if idle == 0 {
             break;
         }
@@ -55,13 +55,13 @@ pub fn is_marked(
     requires { KeyAsked cells.now g }
     ensures { MarkSays cells.now g x mark marks.now result }
 {
-    x < g.count && marks[key_at(cells, g, x)] == mark
+    x < g.size.bindings && marks[key_at(cells, g, x)] == mark
 }
 
 // Makes the mark there.
 pub fn make_mark(cells: &[u32; CELLS], g: KeyGroup, x: usize, mark: u16, marks: &mut [u16; KEYS])
     requires key_asked { KeyAsked cells.now g }
-    requires x_lt_count { x < g.count }
+    requires x_lt_count { x < g.size.bindings }
     ensures { marks.new ≡ set marks.old (key_in cells.now g x) mark }
 {
     marks[key_at(cells, g, x)] = mark;
@@ -71,5 +71,5 @@ pub fn make_mark(cells: &[u32; CELLS], g: KeyGroup, x: usize, mark: u16, marks: 
 pub fn is_within(from: usize, end: usize, first: usize, size: usize) -> bool
     ensures { Within from end first size result }
 {
-    from <= first && first <= end && size <= end - first
+    (from..=end).contains(&first) && size <= end - first
 }

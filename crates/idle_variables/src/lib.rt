@@ -1,63 +1,70 @@
 // Variables that do not matter: no test of some searches of a part mentions them. Of the state before only; a test of the state after does not read them.
-// Form 5: u, l and slot are what these functions go over: a type for each bound would be made in each of the walks, and be shown there as the clause is.
-// `PlanAsked` is a part of what the callers in `nest_steps` ask of the plan: a type with it would be made of the `PartSearch` for these three calls alone, and
-// stand beside it.
 #![tactic(auto)]
 
 pub mod keys;
 
 ghost use Rattle.std.specs.Prelude.{◌+◌, ◌<◌, ◌≤◌};
-ghost use Rattle.points.specs.Searches.{mark_in};
 ghost use Rattle.idle_variables.specs.IdlePromises.{TestSays, LevelSays, SearchSays, SearchesSay, PlanAsked, MaskSays};
 
 use mentions::Mention;
 use plans::PartSearch;
+use points::masks::mask_of;
 use points::plan::LEVELS;
 use points::slots::AFTER;
 
 // How many searches a plan has.
 const SEARCHES: usize = 5;
 
-// Does a test not depend on the variable of a slot?
-fn idle_test(t: &[u16; 16384], e: usize, slot: usize) -> bool
-    requires { slot < 22 }
-    ensures { TestSays t.now e slot result }
-{
-    if e % 2 == AFTER {
-        return true;
+// A variable by its slot, and the search whose tests may mention it.
+#[derive(Clone, Copy)]
+struct Variable<'a> {
+    search: &'a PartSearch<'a>,
+    slot: usize,
+    ghost low: { slot < 22 },
+    ghost planned: { PlanAsked search.now.plan.now },
+}
+
+impl Variable<'_> {
+    // Does a test not depend on it?
+    fn idle_test(&self, e: usize) -> bool
+        ensures { TestSays self.now.search.now.table.now e self.now.slot result }
+    {
+        if e % 2 == AFTER {
+            return true;
+        }
+        let mention = Mention {
+            table: self.search.table,
+            slot: self.slot,
+        };
+        mention.free_pred(e / 2)
     }
-    let mention = Mention { table: t, slot };
-    mention.free_pred(e / 2)
-}
 
-// Does no test of a level?
-fn idle_level(s: &PartSearch<'_>, u: usize, l: usize, slot: usize) -> bool
-    requires { (u < 5) × (l < 12) × (slot < 22) × (mark_in s.now.plan.now u (l + 1) ≤ 20560) }
-    ensures { LevelSays s.now.table.now s.now.plan.now u l slot result }
-{
-    s.tests(u, l).all(
-        |k|
-            requires { (k < 20560) × (slot < 22) }
-        { idle_test(s.table, usize::from(s.plan[k]), slot) },
-    )
-}
+    // Does no test of a level?
+    fn idle_level(&self, u: usize, l: usize) -> bool
+        requires { (u < 5) × (l < 12) }
+        ensures { LevelSays self.now.search.now.table.now self.now.search.now.plan.now u l self.now.slot result }
+    {
+        self.search.tests(u, l).all(
+            |k|
+                requires { k < 20560 }
+            { self.idle_test(usize::from(self.search.plan[k])) },
+        )
+    }
 
-// Does no test of the search u?
-fn idle_search(s: &PartSearch<'_>, u: usize, slot: usize) -> bool
-    requires u_bound { (u < 5) × (slot < 22) }
-    requires plan_asked { PlanAsked s.now.plan.now }
-    ensures { SearchSays s.now.table.now s.now.plan.now u slot result }
-{
-    (0..LEVELS).all(|l| idle_level(s, u, l, slot))
-}
+    // Does no test of the search u?
+    fn idle_search(&self, u: usize) -> bool
+        requires { u < 5 }
+        ensures { SearchSays self.now.search.now.table.now self.now.search.now.plan.now u self.now.slot result }
+    {
+        (0..LEVELS).all(|l| self.idle_level(u, l))
+    }
 
-// Does no test of the searches from u on?
-fn idle_searches(s: &PartSearch<'_>, u: usize, slot: usize) -> bool
-    requires slot_bound { slot < 22 }
-    requires plan_asked { PlanAsked s.now.plan.now }
-    ensures { SearchesSay s.now.table.now s.now.plan.now u slot result }
-{
-    (u..SEARCHES).all(|v| idle_search(s, v, slot))
+    // Does no test of the searches from u on?
+    fn idle_searches(&self, u: usize) -> bool
+        ensures { SearchesSay self.now.search.now.table.now self.now.search.now.plan.now u self.now.slot result }
+    {
+        (u..SEARCHES).all(|v| self.idle_search(v))
+    }
 }
 
 // The m variables from the slot `first` on as bits, the first one's lowest: set where no test of the searches from u on depends on the variable.
@@ -66,9 +73,16 @@ pub fn idle_of(s: &PartSearch<'_>, u: usize, first: usize, m: usize) -> u64
     requires plan_asked { PlanAsked s.now.plan.now }
     ensures { MaskSays s.now.table.now s.now.plan.now u first m result }
 {
-    let mut mask: u64 = 0;
-    for slot in (first..first + m).rev() {
-        mask = 2 * mask + u64::from(idle_searches(s, u, slot));
-    }
-    mask
+    mask_of(
+        m,
+        |k|
+            requires { (first + k < 22) × PlanAsked s.now.plan.now }
+        {
+            let variable = Variable {
+                search: s,
+                slot: first + k,
+            };
+            variable.idle_searches(u)
+        },
+    )
 }

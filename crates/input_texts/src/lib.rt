@@ -3,12 +3,12 @@
 
 ghost use Rattle.std.specs.Prelude.{◌≤◌, length, IfOk};
 
-use lexical::bounds::TEXT_BYTES;
+use lexical::bounds::TEXT_FRONT;
 use std::io;
 use std::io::Read;
 
-// The longest text, and one byte more: a text that is longer is refused by these alone.
-pub const INPUT: usize = TEXT_BYTES + 1;
+// How much of a text is read.
+pub const INPUT: usize = TEXT_FRONT;
 
 // Reads until the text is full or the input ends; how many bytes of it there are.
 // Form 3: how far a read goes is what the input answers.

@@ -1,12 +1,16 @@
 -- Labels stored one behind another, and in blocks: what is stored so far, and that the others are as they were.
 use mathlib.Core.Path.{◌≡◌, refl, sym, ap, subst, ◌∙◌}
 use mathlib.Core.Logic.{◌⊎◌, inl, inr}
-use mathlib.Core.List.{List}
-use Prim.Native.Nat.{ℕ, ◌+◌, ◌*◌, ◌<◌, ◌≤◌}
+use mathlib.Core.List.{List, ◌++◌}
+use Prim.Native.Nat.{ℕ, ◌+◌, ◌-◌, ◌*◌, ◌<◌, ◌≤◌}
 use native.Mathlib.Omega.{arith}
-use native.Mathlib.Nat.{eq-or-lt_of_le}
-use lib.ListN.{length, get_or, set, length-set}
-use lib.Seq.{get_or-set_same, get_or-set_other}
+use native.Mathlib.Nat.{eq-or-lt_of_le, zero-add}
+use lib.ListN.{length, get_or, set, length-set, take, drop}
+use lib.Seq.{get_or-set_same, get_or-set_other, length-take-le}
+use Rattle.std.proofs.lemmas.List.{length-drop}
+use borrow.Rule.Slice.PartMut.{mid_of, put_mid}
+use Rattle.std.specs.Simd.Lanes.{put_chunk}
+use Rattle.std.proofs.lemmas.Simd.{put_chunk_is, length-put_chunk, get_or-put_chunk_below, get_or-put_chunk_above, get_or-put_chunk_at}
 use Rattle.labels.specs.LabelPromises.{Between, Stored, titles_of, variable_of, TitlesGathered, VariableGathered, VariablesGathered}
 
 pub between_none : (from to : ℕ) (old : List ℕ) → Between from to old old
@@ -54,12 +58,32 @@ stored_next {n} {at} {x} {f} {old} {mid} {new} s room e w =
 pub stored_as : {n k at : ℕ} {f : ℕ → ℕ} {old new : List ℕ} → k ≡ n → Stored k at f old new → Stored n at f old new
 stored_as {at = at} {f} {old} {new} e s = subst (λ (j : ℕ). Stored j at f old new) e s
 
-pub stored-four : {at x y z w : ℕ} {f : ℕ → ℕ} {old a b c d : List ℕ} → at + 4 ≤ length old → x ≡ f 0 → a ≡ set old at x → y ≡ f 1 → b ≡ set a (at + 1) y
-    → z ≡ f 2 → c ≡ set b (at + 2) z → w ≡ f 3 → d ≡ set c (at + 3) w → Stored 4 at f old d
-stored-four {at} {x} {f = f} {old} room p₀ q₀ p₁ q₁ p₂ q₂ p₃ q₃ =
-    let e : at ≡ at + 0 = omega arith in
-    let s = stored_next (stored-none at f old) (omega arith) p₀ (q₀ ∙ ap (λ (j : ℕ). set old j x) e) in
-    stored_next (stored_next (stored_next s (omega arith) p₁ q₁) (omega arith) p₂ q₂) (omega arith) p₃ q₃
+pub stored-four : {x y z w : ℕ} {f : ℕ → ℕ} {old : List ℕ} → length old ≡ 4 → x ≡ f 0 → y ≡ f 1 → z ≡ f 2 → w ≡ f 3 → Stored 4 0 f old (set (set (set (set old 0 x) 1 y) 2 z) 3 w)
+stored-four {f = f} {old} long p q r s =
+    stored_next (stored_next (stored_next (stored_next (stored-none 0 f old) (omega arith) p refl) (omega arith) q refl) (omega arith) r refl) (omega arith) s refl
+
+-- a part of the labels that is stored by itself
+pub stored-part : {n at to : ℕ} {f : ℕ → ℕ} {old new : List ℕ} → Stored n 0 f (mid_of at (to - at) old) new → to ≡ at + n → to ≤ length old
+    → Stored n at f old (put_mid at (to - at) old new)
+stored-part {n} {at} {to} {f} {old} {new} s t room =
+    record {
+      others =
+          record {
+            below = λ i h. here i ∙ get_or-put_chunk_below at old new i 0 h;
+            above = λ i h. here i ∙ get_or-put_chunk_above at old new i 0 (omega (arith, long));
+            same_length = ap length is ∙ length-put_chunk at old new;
+          };
+      each = λ k h. here (at + k) ∙ get_or-put_chunk_at at old new k 0 (omega (arith, long)) (omega (arith, long)) ∙ ap (λ (j : ℕ). get_or new j 0) (sym (zero-add k)) ∙ s.each k h;
+    }
+  where
+    long : length new ≡ to - at
+    long = s.others.same_length ∙ length-take-le (to - at) (drop at old) (omega (arith, length-drop at old))
+
+    is : put_mid at (to - at) old new ≡ put_chunk at old new
+    is = ap (λ (k : ℕ). take at old ++ (new ++ drop k (drop at old))) (sym long) ∙ sym (put_chunk_is at old new (omega (arith, long)))
+
+    here : (i : ℕ) → get_or (put_mid at (to - at) old new) i 0 ≡ get_or (put_chunk at old new) i 0
+    here i = ap (λ (l : List ℕ). get_or l i 0) is
 
 -- ---- the operations' names, and the variables
 

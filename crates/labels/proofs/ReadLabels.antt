@@ -1,11 +1,10 @@
 -- The labels gathered from the arrays that the reader leaves of a text are those of its dossier.
-use mathlib.Core.Path.{◌≡◌, refl, sym, ap, ◌∙◌, subst}
+use mathlib.Core.Path.{◌≡◌, refl, sym, ◌∙◌, subst}
 use mathlib.Core.List.{List, [], append-nil}
 use mathlib.Core.Option.{some}
 use Prim.Native.Nat.{ℕ, ◌+◌, ◌-◌, ◌*◌, ◌<◌, ◌≤◌}
 use native.Mathlib.Omega.{arith}
 use lib.ListN.{length, get_elem?, get_or, take, drop}
-use lib.Seq.{length-take-le}
 use Rattle.lexical.specs.Symbols.{no_ending}
 use Rattle.form.specs.Tree.{Letters, Given, elements, declarations, inward, outward, Parameter, Operation, Dossier}
 use Rattle.form.specs.Written.{ending_of}
@@ -20,7 +19,7 @@ use Rattle.names.proofs.PassAgrees.{DossierIn}
 use Rattle.names.proofs.PassAgreesDeclared.{TypedIn}
 use Rattle.node_spans.specs.Spans.{spans_of, span}
 use Rattle.value_types.proofs.GivenTitles.{few-elements, few-elements-of}
-use Rattle.value_types.proofs.DeclaredCarriers.{declarations_of, parameters-are}
+use Rattle.value_types.proofs.DeclaredCarriers.{parameters-are}
 use Rattle.value_types.proofs.FineContexts.{DossierFaultless, dossier-faultless}
 use Rattle.readings.proofs.TablesDeclaredPlaces.{variables-few}
 use Rattle.readings.specs.ReaderOccurrences.{Occurs}
@@ -28,10 +27,7 @@ use Rattle.readings.specs.ReaderPromises.{Written}
 use Rattle.readings.specs.ReaderGives.{Gives}
 use Rattle.readings.proofs.ReaderReadGives.{read-gives}
 use Rattle.readings.proofs.ReadPredicatesSlotBounds.{inputs_few, outputs_few}
-use Rattle.readings.proofs.TablePatches.{TypesAt}
-use Rattle.readings.proofs.ArrangedParts.{Arranged, arranged}
-use Rattle.readings.proofs.DeclaredTypes.{abstract_types, concrete_types, operation-types}
-use Rattle.readings.proofs.ReadReadings.{few-at, RowsOf, rows_of, Rows, groups-rows}
+use Rattle.readings.proofs.ReadReadings.{few-at, Rows, codes-long, rows-placed, operation-placed, abstracts-typed, concretes-typed, operation-typed}
 use Rattle.labels.specs.Labels.{SpeltAt, LabelsFrom, LabelsOf}
 use Rattle.labels.specs.LabelPromises.{ElementsGathered, TitlesGathered, VariablesGathered}
 use Rattle.labels.proofs.LettersOccur.{letters-occur, letters-at, elements-in, operation-in}
@@ -64,7 +60,7 @@ read-labels text nodes starts spans₀ table₀ groups₀ rows₀ firsts₀ span
       let f = given.variables.abstract in
       row-labels vs
       (state-labelled text nodes starts table gs few no_ending
-      (subst (λ (t : List ℕ). TypesAt t gs (span s 0) (declarations d.abstract)) (sym w.table_is) (abstract_types d ρ A table₀ room))
+      (abstracts-typed given w room)
       (named (span s 0) occur.abstract_in (abstract-nodes d ρ nodes m h u s [] (sym (append-nil s)))) fine.abstract)
       0 8 places.behind_abstracts places.abstracts 1 refl (omega arith);
   concretes =
@@ -72,25 +68,25 @@ read-labels text nodes starts spans₀ table₀ groups₀ rows₀ firsts₀ span
       let f = given.variables.concrete in
       row-labels vs
       (state-labelled text nodes starts table gs few no_ending
-      (subst (λ (t : List ℕ). TypesAt t gs (span s 3) (declarations d.concrete)) (sym w.table_is) (concrete_types d ρ A table₀ room))
+      (concretes-typed given w room)
       (named (span s 3) occur.concrete_in (concrete-nodes d ρ nodes m h u s [] (sym (append-nil s)))) fine.concrete)
       9 8 places.behind_concretes places.concretes 10 refl (omega arith);
   inputs_at = λ j o t.
-      let r = rows_at j o t in
+      let r = operation-placed given w j o t in
       let b = below j o t in
       let n = subst (λ (x : List Variable). length x ≤ 3) (parameters-are gs inward o.parameters) (inputs_few d given.variables o (few-at given.variables.parameters j o t)) in
       subst (LabelsFrom text l₃ gs (18 + 8 * j + 1)) (sym (parameters-are gs inward o.parameters))
       (row-labels vs
-      (parameters-labelled text nodes starts table gs few (λ (x : Parameter). is_input x.direction) (ending_of inward) (span s (9 + 4 * j)) o.parameters (types j o t)
+      (parameters-labelled text nodes starts table gs few (λ (x : Parameter). is_input x.direction) (ending_of inward) (span s (9 + 4 * j)) o.parameters (operation-typed given w room j o t)
       (parameter-names j o t) (fine.parameters o (entry-member o d.operations j t)))
       (18 + 8 * j) 3 r.behind_inputs r.inputs_row (18 + 8 * j + 1) refl (omega arith));
   outputs_at = λ j o t.
-      let r = rows_at j o t in
+      let r = operation-placed given w j o t in
       let b = below j o t in
       let n = subst (λ (x : List Variable). length x ≤ 3) (parameters-are gs outward o.parameters) (outputs_few d given.variables o (few-at given.variables.parameters j o t)) in
       subst (LabelsFrom text l₃ gs (18 + 8 * j + 5)) (sym (parameters-are gs outward o.parameters))
       (row-labels vs
-      (parameters-labelled text nodes starts table gs few (λ (x : Parameter). is_output x.direction) (ending_of outward) (span s (9 + 4 * j)) o.parameters (types j o t)
+      (parameters-labelled text nodes starts table gs few (λ (x : Parameter). is_output x.direction) (ending_of outward) (span s (9 + 4 * j)) o.parameters (operation-typed given w room j o t)
       (parameter-names j o t) (fine.parameters o (entry-member o d.operations j t)))
       (18 + 8 * j + 4) 3 r.behind_outputs r.outputs_row (18 + 8 * j + 5) (omega arith) (omega arith));
 }
@@ -119,26 +115,14 @@ read-labels text nodes starts spans₀ table₀ groups₀ rows₀ firsts₀ span
     occur : DossierIn (Occurs text) d
     occur = letters-occur text given.form
 
-    A : Arranged d ρ (spans_of d ρ) (length (dossier_codes d ρ))
-    A = arranged d ρ
-
     room : length (dossier_codes d ρ) ≤ length table₀
-    room = let q : length (dossier_codes d ρ) ≡ m = ap length (sym u) ∙ length-take-le m nodes h in omega arith
+    room = let q = codes-long nodes d ρ m h u in omega arith
 
     places : Rows d ρ groups
-    places = groups-rows d ρ groups₀ groups given.variables.abstract given.variables.concrete w.groups_are
+    places = rows-placed given w
 
     below : (j : ℕ) (o : Operation) → get_elem? d.operations j ≡ some o → j < 16
     below j o t = let a = entry-below o d.operations j t in let b = given.variables.operations in omega arith
-
-    types : (j : ℕ) (o : Operation) → get_elem? d.operations j ≡ some o → TypesAt table d.givens (span (spans_of d ρ) (9 + 4 * j)) (declarations_of o.parameters)
-    types j o t =
-        subst (λ (x : List ℕ). TypesAt x d.givens (span (spans_of d ρ) (9 + 4 * j)) (declarations_of o.parameters)) (sym w.table_is)
-        (operation-types d ρ A table₀ room j o t)
-
-    rows_at : (j : ℕ) (o : Operation) → get_elem? d.operations j ≡ some o → RowsOf groups (spans_of d ρ) (18 + 8 * j) j o
-    rows_at j o t =
-        rows_of (spans_of d ρ) 0 18 d.operations places.behind_operations given.variables.parameters places.operations j o t j (18 + 8 * j) (omega arith) refl
 
     named : {xs : List Typed} (q : ℕ) → TypedIn (Occurs text) xs → NodesFrom nodes (numbering text) q xs → NamesAt text nodes starts q xs
     named q i n = names_at text nodes starts ρ (Occurs text) spelt i q n.place n.behind n.split

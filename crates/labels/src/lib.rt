@@ -11,7 +11,8 @@ use parser::sections::Nodes;
 pub use search_groups::groups::GROUPS;
 use type_rules::kinds::{look, put};
 
-// Form 1: numbers of the lent array of labels and of nodes, no kinds.
+// Form 1: places in one list of numbers, no kinds: 20 clauses name that list. As a struct of three arrays they would name three, or, by a Model that joins these, each of the three places that
+// are written here and of the seven calls of `label` would have to be shown to be one of the joined list.
 // Each given set has as many labels as it may have elements.
 pub const ELEMENTS: usize = bounds::ELEMENTS as usize;
 
@@ -20,11 +21,11 @@ const GIVEN_SETS: usize = bounds::GIVEN_SETS as usize;
 // Where the labels of operations and of variables begin, how many a variable has, and how many there are.
 pub const TITLES: usize = ELEMENTS * GIVEN_SETS;
 
-pub const VARIABLES: usize = TITLES + span::MOST;
+pub const VARIABLES_FROM: usize = TITLES + span::MOST;
 
 pub const VARIABLE: usize = 4;
 
-pub const LABELS: usize = VARIABLES + VARIABLE * GROUPS;
+pub const LABELS: usize = VARIABLES_FROM + VARIABLE * GROUPS;
 
 // Of a variable's node and of its type's, which is the next one: second size, given sets, shape.
 const TYPE_SIZE: usize = node::SIZE;
@@ -73,12 +74,12 @@ fn name_byte(x: &Sources<'_>, q: usize) -> u16
 }
 
 // The eight labels of a given set whose elements' nodes stand from q on; if it has fewer, the last labels are of other nodes, and nobody reads them.
-fn gather_set(x: &Sources<'_>, q: usize, at: usize, labels: &mut [u16; LABELS])
-    requires { (q ≤ 16384) × (at ≤ 64) }
-    ensures { Stored 8 at (names_from x.now.nodes.now x.now.starts.now q) labels.old labels.new }
+fn gather_set(x: &Sources<'_>, q: usize, labels: &mut [u16])
+    requires { (q ≤ 16384) × (length labels.old ≡ 8) }
+    ensures { Stored 8 0 (names_from x.now.nodes.now x.now.starts.now q) labels.old labels.new }
 {
     for k in 0..ELEMENTS {
-        put(labels, at + k, name_byte(x, q + node::SIZE * k));
+        labels[k] = name_byte(x, q + node::SIZE * k);
     }
 }
 
@@ -94,7 +95,8 @@ pub fn gather_elements(x: &Sources<'_>, m: usize, labels: &mut [u16; LABELS])
     let mut q = made.sections().givens;
     for g in 0..GIVEN_SETS {
         let from = made.skip(q);
-        gather_set(x, from, ELEMENTS * g, labels);
+        let at = ELEMENTS * g;
+        gather_set(x, from, &mut labels[at..at + ELEMENTS]);
         q = made.run(from, shapes::ELEMENT, shapes::ELEMENT);
     }
 }
@@ -114,14 +116,14 @@ pub fn gather_titles(x: &Sources<'_>, labels: &mut [u16; LABELS])
 }
 
 // The four labels of a place of the groups.
-fn gather_variable(x: &Sources<'_>, q: usize, at: usize, labels: &mut [u16; LABELS])
-    requires { (q < 65536) × (at ≤ 716) }
-    ensures { Stored 4 at (variable_of x.now.nodes.now x.now.starts.now x.now.table.now q) labels.old labels.new }
+fn gather_variable(x: &Sources<'_>, q: usize, labels: &mut [u16])
+    requires { (q < 65536) × (length labels.old ≡ 4) }
+    ensures { Stored 4 0 (variable_of x.now.nodes.now x.now.starts.now x.now.table.now q) labels.old labels.new }
 {
-    put(labels, at, name_byte(x, q));
-    put(labels, at + 1, look(x.table, q + TYPE_SHAPE));
-    put(labels, at + 2, look(x.table, q + TYPE_SIDES));
-    put(labels, at + 3, look(x.table, q + TYPE_SIZE));
+    labels[0] = name_byte(x, q);
+    labels[1] = look(x.table, q + TYPE_SHAPE);
+    labels[2] = look(x.table, q + TYPE_SIDES);
+    labels[3] = look(x.table, q + TYPE_SIZE);
 }
 
 // Of the variables in the groups.
@@ -130,6 +132,7 @@ pub fn gather_variables(x: &Sources<'_>, labels: &mut [u16; LABELS])
 {
     for i in 0..GROUPS {
         let q = usize::from(look(x.groups, i));
-        gather_variable(x, q, VARIABLES + VARIABLE * i, labels);
+        let at = VARIABLES_FROM + VARIABLE * i;
+        gather_variable(x, q, &mut labels[at..at + VARIABLE]);
     }
 }

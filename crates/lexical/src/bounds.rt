@@ -3,6 +3,9 @@
 // Bytes of a text, symbols of a text, letters of a name, and the largest number.
 pub const TEXT_BYTES: usize = 32768;
 
+// The longest text, and one byte more: a text that is longer is refused by these alone.
+pub const TEXT_FRONT: usize = TEXT_BYTES + 1;
+
 pub const SYMBOLS: usize = 4096;
 
 pub const NAME_LETTERS: usize = 16;

@@ -20,6 +20,7 @@ pub fn more(v: u16, b: u8) -> Option<u16>
 }
 
 // The number that these bytes write; none where they are not digits or it is over 1,000.
+// Form 4: `u16::from_str_radix` takes a `&str`, and a + in front, which writes no number here: what the bytes are would be tested before it, and 1,000 behind it.
 pub fn decimal(digits: &[u8]) -> Option<u16>
     ensures { result ≡ decimal_after 0 digits.now }
 {

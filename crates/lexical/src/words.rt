@@ -13,8 +13,9 @@ use crate::{Ending, Token, codes};
 const LONGEST_WORD: usize = 8;
 
 // The reserved word whose bytes are packed in `key`, the first one lowest.
-// Form 1: keys, and no words. With a table of words and codes that `iter().find(..)` searches by `==`, which is proved as well, the scan of a text took 1.4 to
-// 2.0 times as long. Of a `match` on byte strings the kit makes 245 goals, 109 of them for `_`: each knows some bytes, and has to refute 29 words by them.
+// Form 1: keys, and no words. The bar is that `read` gets no slower; with a table of words and codes that `iter().find(..)` searches by `==`, which is proved as
+// well, the scan of the six texts of tests/speed takes 1.21 to 1.38 of the time (plain Rust at opt-level 3, best of 200: comparisons 100 to 133 microseconds). Of
+// a `match` on byte strings the kit makes 245 goals, 109 of them for `_`: each knows some bytes, and has to refute 29 words by them.
 pub fn word_code(key: u64) -> Option<u8>
     ensures { result ≡ keyed words key }
 {
@@ -53,6 +54,8 @@ pub fn word_code(key: u64) -> Option<u8>
 }
 
 // The bytes of a run packed as one number, the first one lowest: there is room for sixteen. Most names have one letter, which is its own number.
+// Form 4: with `u128::from_le_bytes` of sixteen bytes that the run is copied into, the scan of the same texts takes 0.96 (long names) to 1.26 (quantifiers) of the
+// time.
 pub fn packed(run: &[u8]) -> u128
     ensures { result ≡ packed 16 run.now }
 {

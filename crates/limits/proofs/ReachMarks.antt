@@ -5,7 +5,7 @@ use mathlib.Core.List.{List, [], ◌∷◌, ◌++◌, map}
 use mathlib.Core.Option.{Option, none, some}
 use Prim.Native.Nat.{ℕ, suc, ◌+◌, ◌*◌, ◌/◌}
 use native.Mathlib.Omega.{arith}
-use lib.ListN.{length, drop, set, replicate, length-append}
+use lib.ListN.{length, drop, set, replicate}
 use lib.Seq.{set_comm}
 use Rattle.lexical.specs.Lists.{filter}
 use Rattle.lexical.specs.Symbols.{Name, Ending, no_ending, prime, query, shriek}
@@ -21,6 +21,7 @@ use Rattle.binding_counts.specs.DeclaredTypesFit.{TypesFit}
 use Rattle.limits.specs.DossierSizesByNumber as near
 use Rattle.limits.specs.DossierSizesByNumber.{shown_sizes, EndsNear, TypesNear, type_size, entry_size, marks_of, marks}
 use Rattle.limits.proofs.SizesAgreeScope.{domain-bound}
+use Rattle.node_spans.proofs.DeclaredLengths.{declarations-long, parameters-long}
 
 -- ---- sizes over a table ----
 
@@ -130,15 +131,6 @@ module _ (i : ℕ) (e : Ending) (d : Declaration) (ρ : Numbering) (rest : List 
 
 -- ---- the variables of a state ----
 
-declared-count : (i : ℕ) (ds : List Declaration) (ρ : Numbering) → length (declaration_codes i ds ρ) ≡ 8 * length ds
-unfolding declaration_codes
-declared-count i [] ρ = refl
-declared-count i (d ∷ ds) ρ =
-    let a = length-append (declaration_code i no_ending d ρ) (declaration_codes (i + 3 + type_width d.type) ds ρ) in
-    let b = node-long i no_ending d ρ [] d.type in
-    let c = declared-count (i + 3 + type_width d.type) ds ρ in
-    omega arith
-
 eighth : (n m : ℕ) → n ≡ 8 * m → n / 8 ≡ m
 eighth n m e = omega arith
 
@@ -153,7 +145,7 @@ module _ (gs : List Given) (ρ : Numbering) (e : Ending) (s : ℕ) (ending : (x 
 
   pub group-marks : {ds : List Declaration} → TypesFit gs ds → TypesNear ds → (i : ℕ) → marks true (declaration_codes i ds ρ) s S ≡ shown_on (variables gs e ds) ρ S
   group-marks {ds} t u i =
-      ap (λ (k : ℕ). marks_of true k (declaration_codes i ds ρ) s S) (eighth (length (declaration_codes i ds ρ)) (length ds) (declared-count i ds ρ)) ∙ group_of t u i
+      ap (λ (k : ℕ). marks_of true k (declaration_codes i ds ρ) s S) (eighth (length (declaration_codes i ds ρ)) (length ds) (declarations-long i ds ρ)) ∙ group_of t u i
 
 -- the numbers of plain and of primed names
 pub plain-ending : (ρ : Numbering) (x : Letters) → number_of_name ρ x no_ending + 0 ≡ number_of_name ρ x no_ending
@@ -164,15 +156,6 @@ unfolding number_of_name
 primed-ending ρ x = omega arith
 
 -- ---- parameters ----
-
-parameter-count : (i : ℕ) (xs : List Parameter) (ρ : Numbering) → length (parameter_codes i xs ρ) ≡ 8 * length xs
-unfolding parameter_codes
-parameter-count i [] ρ = refl
-parameter-count i (x ∷ xs) ρ =
-    let a = length-append (declaration_code i (ending_of x.direction) x.declaration ρ) (parameter_codes (i + 3 + type_width x.declaration.type) xs ρ) in
-    let b = node-long i (ending_of x.direction) x.declaration ρ [] x.declaration.type in
-    let c = parameter-count (i + 3 + type_width x.declaration.type) xs ρ in
-    omega arith
 
 -- an output's number is no input's
 out_of-inputs : (ρ : Numbering) (x y : Letters) → number_of_name ρ y shriek ≡ number_of_name ρ x query → ⊥
@@ -285,4 +268,4 @@ module _ (gs : List Given) (ρ : Numbering) (S : Bounds) where
   pub parameters-marks : (xs : List Parameter) → TypesFit gs (map (λ (x : Parameter). x.declaration) xs) → TypesNear (map (λ (x : Parameter). x.declaration) xs) → (i : ℕ)
       → marks true (parameter_codes i xs ρ) 0 S ≡ both xs
   parameters-marks xs t u i =
-      ap (λ (k : ℕ). marks_of true k (parameter_codes i xs ρ) 0 S) (eighth (length (parameter_codes i xs ρ)) (length xs) (parameter-count i xs ρ)) ∙ parameters-of xs t u i
+      ap (λ (k : ℕ). marks_of true k (parameter_codes i xs ρ) 0 S) (eighth (length (parameter_codes i xs ρ)) (length xs) (parameters-long i xs ρ)) ∙ parameters-of xs t u i

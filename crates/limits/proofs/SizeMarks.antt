@@ -6,11 +6,12 @@ use mathlib.Core.Logic.{◌⊎◌, inl, inr}
 use Prim.Native.Nat.{ℕ, zero, suc, ◌+◌, ◌-◌, ◌*◌, ◌/◌, ◌%◌, ◌≤◌, ◌<◌, max}
 use native.Mathlib.Omega.{arith}
 use lib.Dec.{eqb}
-use lib.ListN.{length, drop, get_or, set, replicate, length-set, length-append, get_or-append}
+use lib.ListN.{length, drop, get_or, set, length-set, length-append, get_or-append}
 use lib.Seq.{get_or-drop, drop_at, drop-drop, get_or-set_other, ext_get_or}
 use borrow.Author.Tests.{eqb-true, eqb-false, ne_eqb}
 use Rattle.term_sizes.specs.SizesByNumber.{Bounds, absolute}
 use Rattle.limits.specs.DossierSizesByNumber.{entry_size, type_size, marks_of, marks, marked, Clear}
+use Rattle.lexical.proofs.Zeros.{zero-at}
 
 -- ---- one declaration ----
 
@@ -185,11 +186,6 @@ away (suc k) code s x S T = on (eqb x (get_or code 1 0 + s)) refl (away k (drop 
           get_or-set_other (marks_of true k (drop 8 code) s T) (get_or code 1 0 + s) x (entry_size true code 4) 0 (eqb-false x _ e) ∙ w.1,
         )
 
-pub zeros-at : (n k : ℕ) → ◌≡◌ {A = ℕ} (get_or (replicate n 0) k 0) 0
-zeros-at zero k = refl
-zeros-at (suc n) zero = refl
-zeros-at (suc n) (suc k) = zeros-at n k
-
 module _ (a b : List ℕ) (s : ℕ) (c : List ℕ) (Z : Bounds) (clear : Clear Z) where
   -- the table with the marks of one, two and three groups, and these taken away in the same order
   abbrev M₁ : Bounds
@@ -211,7 +207,7 @@ module _ (a b : List ℕ) (s : ℕ) (c : List ℕ) (Z : Bounds) (clear : Clear Z
   W₃ = marks false a 0 W₂
 
   empty : (x : ℕ) → get_or Z x 0 ≡ 0
-  empty x = ap (λ (l : Bounds). get_or l x 0) clear ∙ zeros-at (length Z) x
+  empty x = ap (λ (l : Bounds). get_or l x 0) clear ∙ zero-at (length Z) x
 
   all-zero : (x : ℕ) → get_or W₃ x 0 ≡ 0
   unfolding Apart

@@ -4,7 +4,7 @@ use mathlib.Core.Bool.{true, false}
 use mathlib.Core.List.{List, [], ◌++◌, map}
 use Prim.Native.Nat.{ℕ, ◌+◌, ◌-◌, ◌*◌, ◌≤◌, ◌<◌}
 use native.Mathlib.Omega.{arith}
-use lib.ListN.{length, take, drop, replicate}
+use lib.ListN.{length, take, replicate}
 use Rattle.lexical.specs.Symbols.{no_ending, prime}
 use Rattle.form.specs.Tree.{Pred, Given, Declaration, declarations, Parameter, State, Operation, Dossier}
 use Rattle.form.specs.Codes.{Numbering, declaration_codes, parameter_codes}
@@ -12,7 +12,7 @@ use Rattle.static_rules.specs.Carriers.{Variable}
 use Rattle.static_rules.specs.Scope.{variables, unprimed, primed, inputs, outputs, operation_reach}
 use Rattle.type_rules.specs.TypesByNumber.{fault_key, lesser}
 use Rattle.declared_names.specs.PassPromises.{PartOf}
-use Rattle.node_spans.specs.Spans.{Stands, PredAt, span}
+use Rattle.node_spans.specs.Spans.{PredAt, span}
 use Rattle.term_sizes.specs.declared.Sized.{Sized}
 use Rattle.term_sizes.specs.SizesByNumber.{Bounds, pred_over}
 use Rattle.term_sizes.specs.SizeWalkPromises.{PredSized}
@@ -20,15 +20,13 @@ use Rattle.binding_counts.specs.DeclaredTypesFit.{TypesFit}
 use Rattle.limits.specs.DossierSizesByNumber.{shown_sizes, TypesNear, marks, marks_of, marked, Clear, ContextSeen, over_of, states_over, conditions_over, operation_over, PartSeen, OperationSeen}
 use Rattle.limits.proofs.SizeMarks.{restored}
 use Rattle.limits.proofs.ReachMarks.{shown_on, sizes-on, shown-append, group-marks, plain-ending, primed-ending, parameters-marks}
+use Rattle.binding_counts.proofs.BindingSpans.{part-stands, never}
 
 -- ---- one predicate ----
 
-not-below : (n m : ℕ) → n ≤ m → m < n → ⊥
-not-below n m h k = omega arith
-
 pub context-none : (nodes a b : List ℕ) (s : ℕ) (c : List ℕ) (end : ℕ) (S U : Bounds) → length nodes < end → U ≡ S → ContextSeen nodes a b s c end S U 0
 context-none nodes a b s c end S U h u =
-    record { kept = λ k. u; right = λ p i ρ base k e. elim (not-below end (length nodes) k h) [ ] }
+    record { kept = λ k. u; right = λ p i ρ base k e. elim (never end (length nodes) k h) [ ] }
 
 -- the groups by what they are
 pub reach-as : {nodes a a' b b' c c' : List ℕ} {s s' end : ℕ} {S U : Bounds} {f : ℕ} → a' ≡ a → b' ≡ b → s' ≡ s → c' ≡ c → ContextSeen nodes a' b' s' c' end S U f → ContextSeen nodes a b s c end S U f
@@ -155,12 +153,6 @@ conditions-seen nodes spans a c none e₁ e₂ e₃ S U₁ U₂ U₃ f g h r o q
     two : Clear S → U₂ ≡ S
     two l = k₂.kept (clear-on S U₁ (k₁.kept l) l) ∙ k₁.kept l
 
--- the codes that stand at the places of a part
-pub part-stands : (nodes : List ℕ) (x y from to : ℕ) (r codes : List ℕ) → x ≡ from → y ≡ to → PartOf nodes x y r → Stands nodes from to codes → r ≡ codes
-part-stands nodes x y from to r codes p q h s =
-    h.part (subst (λ (n : ℕ). n ≤ y) (sym p) (subst (λ (n : ℕ). from ≤ n) (sym q) s.ordered)) (subst (λ (n : ℕ). n ≤ length nodes) (sym q) s.inside)
-    ∙ ap₂ (λ (n m : ℕ). take (m - n) (drop n nodes)) p q ∙ s.stands
-
 pub operation-seen : (nodes spans a c p : List ℕ) (k x y e₁ e₂ : ℕ) (S U₁ U₂ : Bounds) (f g r : ℕ) → x ≡ span spans (9 + 4 * k) → y ≡ span spans (9 + 4 * k + 1) → PartOf nodes x y p
     → e₁ ≡ span spans (9 + 4 * k + 2) → e₂ ≡ span spans (9 + 4 * k + 3) → ContextSeen nodes a a 1 p e₁ S U₁ f → ContextSeen nodes c c 1 p e₂ U₁ U₂ g → r ≡ lesser f g
     → OperationSeen nodes spans k a c S U₂ r
@@ -170,7 +162,7 @@ operation-seen nodes spans a c p k x y e₁ e₂ S U₁ U₂ f g r qx qy h q₁ 
       kept = λ l. k₂.kept (clear-on S U₁ (k₁.kept l) l) ∙ k₁.kept l;
       right =
           λ m d ρ i o l z at t u.
-          let is = part-stands nodes x y _ _ p _ qx qy h at.parameters in
+          let is = part-stands nodes _ _ x y p _ qx qy h at.parameters in
           e
           ∙ ap₂ lesser
           (over-of nodes a a 1 p e₁ S U₁ f k₁ _ _ _ (length S) _ ρ (operation_reach d d.abstract o) q₁ at.abstractly

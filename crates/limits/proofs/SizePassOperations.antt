@@ -14,14 +14,15 @@ use Rattle.form.specs.Codes.{Numbering, pred_width}
 use Rattle.static_rules.specs.Scope.{contexts, operation_contexts, concrete_taken}
 use Rattle.type_rules.specs.TypesByNumber.{lesser}
 use Rattle.declared_names.specs.PassPromises.{PartOf}
-use Rattle.names.proofs.TypesAgreeLeast.{lesser-zero, lesser-assoc}
+use Rattle.names.proofs.TypesAgreeLeast.{lesser-zero, lesser-assoc, zero-lesser}
 use Rattle.node_spans.specs.Spans.{span, OperationsAt, one_more}
 use Rattle.term_sizes.specs.SizesByNumber.{Bounds}
 use Rattle.binding_counts.specs.DeclaredTypesFit as fits
 use Rattle.binding_counts.specs.DeclaredTypesFit.{OperationsFit}
 use Rattle.limits.specs.DossierSizesByNumber as near
 use Rattle.limits.specs.DossierSizesByNumber.{context_over, least_over, OperationsNear, Clear, Ready, states_over, conditions_over, operation_over, operations_over, PartSeen, OperationSeen, MeasuresSeen}
-use Rattle.limits.proofs.SizePass.{part-stands, clear-on}
+use Rattle.limits.proofs.SizePass.{clear-on}
+use Rattle.binding_counts.proofs.BindingSpans.{part-stands}
 
 -- ---- operations ----
 
@@ -39,10 +40,6 @@ pub record Left (nodes spans : List ℕ) (n N k f : ℕ) (d : Dossier) (ρ : Num
 abbrev pub OperationsOn : (nodes spans : List ℕ) (n : ℕ) (a c : List ℕ) (N k f : ℕ) → Type 0
 OperationsOn nodes spans n a c N k f = (d : Dossier) (ρ : Numbering) → Ready nodes spans n a c d ρ → Left nodes spans n N k f d ρ
 
-none_before : (b : ℕ) → lesser 0 b ≡ b
-unfolding lesser
-none_before b = refl
-
 pub operations-start : (nodes spans : List ℕ) (n : ℕ) (a c : List ℕ) (N : ℕ) → OperationsOn nodes spans n a c N 0 0
 operations-start nodes spans n a c N d ρ y =
     record {
@@ -53,7 +50,7 @@ operations-start nodes spans n a c N d ρ y =
       fit = y.fit.parameters;
       near = y.near.parameters;
       count = counted y.structured.counted;
-      same = none_before (operations_over d ρ N);
+      same = zero-lesser (operations_over d ρ N);
     }
   where
     counted : n ≡ length d.operations → 0 + length d.operations ≡ n
@@ -175,8 +172,8 @@ measures-seen nodes spans a c n x₁ y₁ x₂ y₂ N S₁ S₂ S₃ S₄ f g h 
       structured = s;
       fit = t;
       near = u;
-      abstracts = part-stands nodes x₁ y₁ _ _ a _ p₁ q₁ w₁ s.abstract.variables;
-      concretes = part-stands nodes x₂ y₂ _ _ c _ p₂ q₂ w₂ s.concrete.variables;
+      abstracts = part-stands nodes _ _ x₁ y₁ a _ p₁ q₁ w₁ s.abstract.variables;
+      concretes = part-stands nodes _ _ x₂ y₂ c _ p₂ q₂ w₂ s.concrete.variables;
     } in
     e
     ∙ ap₂ lesser (A.right d ρ l₁ y ∙ ap (states_over d ρ) m₁)

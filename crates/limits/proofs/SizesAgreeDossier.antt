@@ -33,7 +33,7 @@ use Rattle.limits.specs.DossierSizesByNumber as near
 use Rattle.limits.specs.DossierSizesByNumber.{shown_sizes, context_over, least_over, EndsNear, TypesNear, OperationsNear, DeclaredNear, MeasuresSeen}
 use Rattle.limits.proofs.SizesAgreeScope.{SizesShown, size_found, size_of_name}
 use Rattle.limits.proofs.SizesAgree.{measured_pred}
-use Rattle.limits.proofs.SizeMarks.{zeros-at}
+use Rattle.lexical.proofs.Zeros.{zero-at}
 use Rattle.limits.proofs.ReachMarks.{carried}
 
 -- ---- the sizes of the variables in reach ----
@@ -64,7 +64,7 @@ module _ (ρ : Numbering) (P : Letters → Type 0) (ν : Numbered ρ P) where
 
   reach-shown : (n : ℕ) → 16384 ≤ n → {vs : List Variable} → NamesIn P vs → SizesShown ρ P (sizes_of vs) (shown_sizes vs ρ n)
   unfolding shown_sizes find
-  reach-shown n l no_names = record { long = omega (arith, length-replicate {A = ℕ} n 0); sizes = λ x px. zeros-at n (name_number ρ x) }
+  reach-shown n l no_names = record { long = omega (arith, length-replicate {A = ℕ} n 0); sizes = λ x px. zero-at n (name_number ρ x) }
   reach-shown n l (one_name {v = v} {vs = vs} p h) = name-shown (sizes_of vs) (shown_sizes vs ρ n) (reach-shown n l h) v.called p (largest v.carrier)
 
 -- ---- the letters of the variables in reach ----

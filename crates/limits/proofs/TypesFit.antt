@@ -12,7 +12,7 @@ use Rattle.form.specs.Headings.{givens_at, abstract_at, concrete_at, operations_
 use Rattle.static_rules.specs.Carriers.{same_name}
 use Rattle.static_rules.specs.Scope.{given_names, abstract_taken, concrete_taken}
 use Rattle.static_rules.specs.Names.{new_name, type_faults, declaration_faults, given_faults, parameter_name, parameter_faults, operation_faults, name_faults}
-use Rattle.names.proofs.FaultlessParts.{faultless}
+use Rattle.static_rules.proofs.Faultless.{faultless}
 use Rattle.binding_counts.specs.DeclaredTypesFit.{TypesFit, no_types, one_type, OperationsFit, no_operations, one_operation, DeclaredFit}
 use Rattle.refusals.proofs.FaultLists.{append_nil-both}
 

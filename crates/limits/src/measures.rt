@@ -41,13 +41,10 @@ fn size_at<const ON: bool>(code: &[u16], at: usize) -> u16
     requires { at + 4 ≤ length code.now }
     ensures { result ≡ entry_size ON code.now at }
 {
-    if !ON {
-        return 0;
+    match code[at + node::SHAPE] {
+        shapes::RANGE if ON => absolute_of(code[at + node::A]).max(absolute_of(code[at])),
+        _ => 0,
     }
-    if code[at + node::SHAPE] != shapes::RANGE {
-        return 0;
-    }
-    absolute_of(code[at + node::A]).max(absolute_of(code[at])) as u16
 }
 
 // The sizes of declared names come into the table, or leave it, from the last to the first: of two with one name the first decides.
@@ -73,11 +70,9 @@ fn mark_all<const ON: bool>(r: &Reach<'_>, bounds: &mut [u16])
 fn context(nodes: &[u16], r: &Reach<'_>, end: usize, bounds: &mut [u16]) -> Option<Fault>
     ensures { ContextSeen nodes.now r.now.first.now r.now.second.now r.now.shift r.now.third.now end bounds.old bounds.new (fault_key result) }
 {
-    if nodes.len() < end {
-        return None;
-    }
+    let code = nodes.get(..end)?;
     mark_all::<true>(r, bounds);
-    let p = pred(&nodes[..end], bounds);
+    let p = pred(code, bounds);
     mark_all::<false>(r, bounds);
     p.fault
 }

@@ -1,5 +1,7 @@
 // The lines of a witness: values as document 01 writes them, a line for each variable of a group.
-// Form 1: shapes, sizes and places are numbers of the labels, an array that is lent.
+// Form 1: shapes, sizes and places are numbers of the labels, one list of numbers (crates/labels).
+// Form 5: eight functions have the names to read and the writer to write. A struct of both is lent to be written, so that each of the eight would promise `new.names ≡ old.names` too; and
+// `Adds`, which is said of two writers, would be said of a field of it.
 #![tactic(auto)]
 
 ghost use Rattle.std.specs.Prelude.{◌≡◌, [], map, cond, eqb, ◌+◌, ◌*◌, ◌%◌, ◌^◌, ◌≤◌, ◌<◌, length};
@@ -14,10 +16,12 @@ ghost use Rattle.lines.specs.LinesByNumber.{element_piece, pair_piece, member_pi
 ghost use Rattle.lines.specs.MembersByNumber.{members_piece};
 
 use form::shapes::{POWER, RANGE, SET};
-use labels::{Names, VARIABLE, VARIABLES};
-use lexical::{Ending, bounds};
+use labels::{Names, VARIABLE, VARIABLES_FROM};
+use lexical::Ending;
 use pieces::Writer;
+use search_groups::groups::{INPUTS_ROW, STATE_ROW, STATES_ROWS};
 use sets::has;
+pub use slot_carriers::SLOTS;
 use table_nodes::slots;
 
 // The greatest length of a line: a name and its ending, " = ", a value of at most 16 pairs, a newline.
@@ -31,21 +35,15 @@ const BITS: usize = 16;
 
 const SETS: usize = 65536;
 
-// How many slots of values there are.
-// Form 1: a length, no kind.
-pub const SLOTS: usize = slots::LAST as usize + 1;
-
-// The first places of the groups, of both states and of the first operation's inputs and outputs; in front of them a row has their count. How many places an operation has.
+// The first places of the groups, of both states and of the first operation's inputs and outputs; in front of them a row has their count.
 // Form 1: places among the labels, no kinds.
 const ABSTRACT_FIRST: usize = 1;
 
-const CONCRETE_FIRST: usize = ABSTRACT_FIRST + bounds::VARIABLES as usize + 1;
+const CONCRETE_FIRST: usize = ABSTRACT_FIRST + STATE_ROW;
 
-const INPUTS_FIRST: usize = CONCRETE_FIRST + bounds::VARIABLES as usize + 1;
+const INPUTS_FIRST: usize = ABSTRACT_FIRST + STATES_ROWS;
 
-const OUTPUTS_FIRST: usize = INPUTS_FIRST + bounds::INPUTS as usize + 1;
-
-pub const OPERATION_ROW: usize = OUTPUTS_FIRST + bounds::OUTPUTS as usize + 1 - INPUTS_FIRST;
+const OUTPUTS_FIRST: usize = INPUTS_FIRST + INPUTS_ROW;
 
 // A type, as the labels have it.
 #[derive(Clone, Copy)]
@@ -93,7 +91,7 @@ impl Group {
         Group {
             first,
             count,
-            slot: slot as usize,
+            slot: usize::from(slot),
             ending,
         }
     }
@@ -129,7 +127,7 @@ fn shape_of(names: &Names<'_>, i: usize) -> Shape
     requires { i < 160 }
     ensures { (result.shape ≡ label_of names.now.labels.now i 1) × (result.sides ≡ label_of names.now.labels.now i 2) × (result.size ≡ label_of names.now.labels.now i 3) }
 {
-    let first = VARIABLES + VARIABLE * i;
+    let first = VARIABLES_FROM + VARIABLE * i;
     Shape {
         shape: names.label(first + 1),
         sides: names.label(first + 2),
@@ -258,7 +256,7 @@ fn put_line(names: &Names<'_>, i: usize, ending: Ending, x: i64, w: &mut Writer<
     let t = shape_of(names, i);
     w.put_letters(
         names.text,
-        usize::from(names.label(VARIABLES + VARIABLE * i)),
+        usize::from(names.label(VARIABLES_FROM + VARIABLE * i)),
     );
     put_ending(ending, w);
     w.put_all(b" = ");

@@ -8,16 +8,16 @@ use lib.ListN.{length, take, get_or, set}
 use Rattle.lexical.specs.Kinds as kind
 use Rattle.lexical.specs.Kinds.{code_of}
 use Rattle.lexical.specs.Symbols.{no_ending}
-use Rattle.form.specs.Tree.{Domain, given_set, range}
+use Rattle.form.specs.Tree.{Domain, given_set, range, Term}
 use Rattle.form.specs.Written.{connective_kind, comparison_kind, membership_kind, quantifier_kind}
 use Rattle.form.specs.Codes.{node, Numbering, name_number, number_of_name, end_number, end_width, term_width, pred_width, domain_width, range_codes, domain_codes, term_codes, pred_codes}
 use Rattle.type_rules.specs.TypesByNumber.{Names, Sizes, entry, element_of, domain_kind, term_kind}
-use Rattle.typing.proofs.LastNodes.{last-node, one-part, two-parts, three-parts, middle}
+use Rattle.typing.proofs.LastNodes.{CaseP, last-node, one-part, two-parts, three-parts, middle}
 use Rattle.table_nodes.specs.declared.Made.{Made}
 use Rattle.table_nodes.specs.TableByNumber.{Places, next_slot, given_size, element_size, range_count, related_shape, domain_table, term_table, pred_table}
 use Rattle.table_nodes.specs.TableWalkPromises.{RelatedShape, TruthOf, patch, Makes, DomainMade, TermMade, PredMade}
 use Rattle.lowering.proofs.TableParts.{Noded, noded-long, leaf_walked, one-walked, then-walked, leaf-made, one-made, two_made, three_made}
-use Rattle.lowering.proofs.TableWalk.{pred-from, term-again, pred-again}
+use Rattle.lowering.proofs.TableWalk.{RightP, pred-from, term-again, pred-again}
 use Rattle.lowering.proofs.TableWalkTerms.{node-is, bound-walked}
 
 module _ (code : List ℕ) (e s : ℕ) (l : e ≤ length code) (far : 4 ≤ e) (T : Names) (W : Places) (z : Sizes) (out : List ℕ) (lo : length code ≤ length out) where
@@ -97,49 +97,39 @@ module _ (code : List ℕ) (e s : ℕ) (l : e ≤ length code) (far : 4 ≤ e) (
       two_made e out far room r 0 (length base) (λ b. pred_table p₂ T W z ρ s b) (λ b. node 18 b (code_of (connective_kind o)) 0) u v _ _ _ _ o₁ o₂ _ after s₂ s₁ n
       (node-is 18 mq (aq ∙ h.is_first) refl) kq sq)
 
-  pred-compared : (U U' : Names) (Y Y' : Places) (o₁ o₂ after : List ℕ) (u v r : Made) (m a : ℕ) → get_or code (e - 4 + 3) 0 ≡ 4
-      → TermMade code (e - 4) s T U W Y z out o₁ u → TermMade code u.start s U U' Y Y' z o₁ o₂ v → m ≡ u.start → a ≡ get_or code (e - 4 + 1) 0
-      → after ≡ patch (e - 4) (node 19 m a 0) o₂ → r.kind ≡ 0 → r.start ≡ v.start → PredMade code e s T U' W Y' z out after r
-  unfolding term_codes term_table
-  pred-compared U U' Y Y' o₁ o₂ after u v r m a q hu hv₀ mq aq p kq sq =
-      let n : Noded e (node 19 m a 0) o₂ after = record { four = refl; written = p } in
+  -- two terms behind base and a node of shape k over them: made as their tables and a node of shape g
+  abbrev Sided : (after : List ℕ) (r : Made) (k g : ℕ) → Type 0
+  Sided after r k g =
+      (d : ℕ) (t u : Term) (i : ℕ) (ρ : Numbering) (base : List ℕ)
+      → take e code ≡ base ++ (term_codes t i ρ ++ (term_codes u (suc (i + term_width t)) ρ ++ node k (i + term_width t) d 0))
+      → Makes r 0 (length base) e (term_table t T W z ρ s (length base) ++ (term_table u T W z ρ s (length base + length (term_table t T W z ρ s (length base)))
+      ++ node g (length base + length (term_table t T W z ρ s (length base))) d 0)) out after
+
+  pred-sided : (U U' : Names) (Y Y' : Places) (o₁ o₂ after : List ℕ) (u v r : Made) (m a k g : ℕ) → (Sided after r k g → CaseP k (RightP code e s T W z out after r))
+      → get_or code (e - 4 + 3) 0 ≡ k → TermMade code (e - 4) s T U W Y z out o₁ u → TermMade code u.start s U U' Y Y' z o₁ o₂ v → m ≡ u.start
+      → a ≡ get_or code (e - 4 + 1) 0 → after ≡ patch (e - 4) (node g m a 0) o₂ → r.kind ≡ 0 → r.start ≡ v.start → PredMade code e s T U' W Y' z out after r
+  pred-sided U U' Y Y' o₁ o₂ after u v r m a k g case q hu hv₀ mq aq p kq sq =
+      let n : Noded e (node g m a 0) o₂ after = record { four = refl; written = p } in
       let hv = term-again code u.start s T U U' W Y Y' z o₁ o₂ v hu.walked.kept hu.walked.places_kept hv₀ in
       let both = then-walked e T W out far room (e - 4) U U' Y Y' o₁ o₂ u v hu.walked hv₀.walked in
-      pred-from code e s l T W z out 4 U' Y' after r (one-walked e T W out far room U' Y' o₂ _ after v r both n sq) q
-      (λ o t₁ t₂ i ρ base y.
+      pred-from code e s l T W z out k U' Y' after r (one-walked e T W out far room U' Y' o₂ _ after v r both n sq) q
+      (case (λ d t₁ t₂ i ρ base y.
       let j : ℕ = suc (i + term_width t₁) in
-      let h = two-parts code e l base (term_codes t₁ i ρ) (term_codes t₂ j ρ) 4 (i + term_width t₁) (code_of (comparison_kind o)) 0 y in
+      let h = two-parts code e l base (term_codes t₁ i ρ) (term_codes t₂ j ρ) k (i + term_width t₁) d 0 y in
       let s₂ = hu.right t₂ j ρ (base ++ term_codes t₁ i ρ) h.before in
       let s₁ = hv.right t₁ i ρ base (middle code (e - 4) u.start (base ++ term_codes t₁ i ρ) (term_codes t₂ j ρ) h.before hu.walked.falls s₂.start_is) in
-      two_made e out far room r 0 (length base) (λ b. term_table t₂ T W z ρ s b) (λ b. node 19 b (code_of (comparison_kind o)) 0) u v _ _ _ _ o₁ o₂ _ after s₂ s₁ n
-      (node-is 19 mq (aq ∙ h.is_first) refl) kq sq)
+      two_made e out far room r 0 (length base) (λ b. term_table t₂ T W z ρ s b) (λ b. node g b d 0) u v _ _ _ _ o₁ o₂ _ after s₂ s₁ n
+      (node-is g mq (aq ∙ h.is_first) refl) kq sq))
 
-  -- t in u, t in a..b, t |-> u in v
-  pred-member : (U U' : Names) (Y Y' : Places) (o₁ o₂ after : List ℕ) (u v r : Made) (m a : ℕ) → get_or code (e - 4 + 3) 0 ≡ 5
-      → TermMade code (e - 4) s T U W Y z out o₁ u → TermMade code u.start s U U' Y Y' z o₁ o₂ v → m ≡ u.start → a ≡ get_or code (e - 4 + 1) 0
-      → after ≡ patch (e - 4) (node 20 m a 0) o₂ → r.kind ≡ 0 → r.start ≡ v.start → PredMade code e s T U' W Y' z out after r
-  unfolding term_codes term_table
-  pred-member U U' Y Y' o₁ o₂ after u v r m a q hu hv₀ mq aq p kq sq =
-      let n : Noded e (node 20 m a 0) o₂ after = record { four = refl; written = p } in
-      let hv = term-again code u.start s T U U' W Y Y' z o₁ o₂ v hu.walked.kept hu.walked.places_kept hv₀ in
-      let both = then-walked e T W out far room (e - 4) U U' Y Y' o₁ o₂ u v hu.walked hv₀.walked in
-      pred-from code e s l T W z out 5 U' Y' after r (one-walked e T W out far room U' Y' o₂ _ after v r both n sq) q
-      (λ o t₁ t₂ i ρ base y.
-      let j : ℕ = suc (i + term_width t₁) in
-      let h = two-parts code e l base (term_codes t₁ i ρ) (term_codes t₂ j ρ) 5 (i + term_width t₁) (code_of (membership_kind o)) 0 y in
-      let s₂ = hu.right t₂ j ρ (base ++ term_codes t₁ i ρ) h.before in
-      let s₁ = hv.right t₁ i ρ base (middle code (e - 4) u.start (base ++ term_codes t₁ i ρ) (term_codes t₂ j ρ) h.before hu.walked.falls s₂.start_is) in
-      two_made e out far room r 0 (length base) (λ b. term_table t₂ T W z ρ s b) (λ b. node 20 b (code_of (membership_kind o)) 0) u v _ _ _ _ o₁ o₂ _ after s₂ s₁ n
-      (node-is 20 mq (aq ∙ h.is_first) refl) kq sq)
-
-  -- a comparison or a membership, by the shape of its node
+  -- a comparison or a membership (t in u, t in a..b, t |-> u in v), by the shape of its node
   pub pred-sides : (U U' : Names) (Y Y' : Places) (o₁ o₂ after : List ℕ) (u v r : Made) (m a g : ℕ) → ((get_or code (e - 4 + 3) 0 ≡ 4) × (g ≡ 19)) ⊎ ((get_or code (e - 4 + 3) 0 ≡ 5) × (g ≡ 20))
       → TermMade code (e - 4) s T U W Y z out o₁ u → TermMade code u.start s U U' Y Y' z o₁ o₂ v → m ≡ u.start → a ≡ get_or code (e - 4 + 1) 0
       → after ≡ patch (e - 4) (node g m a 0) o₂ → r.kind ≡ 0 → r.start ≡ v.start → PredMade code e s T U' W Y' z out after r
+  unfolding term_codes term_table
   pred-sides U U' Y Y' o₁ o₂ after u v r m a g (inl (q, f)) hu hv mq aq p kq sq =
-      pred-compared U U' Y Y' o₁ o₂ after u v r m a q hu hv mq aq (p ∙ ap (λ (x : ℕ). patch (e - 4) (node x m a 0) o₂) f) kq sq
+      pred-sided U U' Y Y' o₁ o₂ after u v r m a 4 19 (λ h o. h (code_of (comparison_kind o))) q hu hv mq aq (p ∙ ap (λ (x : ℕ). patch (e - 4) (node x m a 0) o₂) f) kq sq
   pred-sides U U' Y Y' o₁ o₂ after u v r m a g (inr (q, f)) hu hv mq aq p kq sq =
-      pred-member U U' Y Y' o₁ o₂ after u v r m a q hu hv mq aq (p ∙ ap (λ (x : ℕ). patch (e - 4) (node x m a 0) o₂) f) kq sq
+      pred-sided U U' Y Y' o₁ o₂ after u v r m a 5 20 (λ h o. h (code_of (membership_kind o))) q hu hv mq aq (p ∙ ap (λ (x : ℕ). patch (e - 4) (node x m a 0) o₂) f) kq sq
 
   pub pred-within : (U : Names) (Y : Places) (o₁ o₂ after : List ℕ) (d v r : Made) (a : ℕ) → get_or code (e - 4 + 3) 0 ≡ 6
       → DomainMade code (e - 4) T z out o₁ d → TermMade code d.start s T U W Y z o₁ o₂ v → a ≡ get_or code (e - 4 + 1) 0

@@ -10,7 +10,7 @@ use lib.Seq.{get_or-set_same, get_or-set_other}
 use Rattle.memo.specs.MemoPromises.{Lists, Keyed, Kept, Memo}
 use Rattle.memo.proofs.SlotLists.{unmade}
 
-all-zero : (n i : ℕ) → get_or {A = ℕ} (replicate n 0) i 0 ≡ 0
+pub all-zero : (n i : ℕ) → get_or {A = ℕ} (replicate n 0) i 0 ≡ 0
 all-zero zero i = refl
 all-zero (suc n) zero = refl
 all-zero (suc n) (suc i) = all-zero n i

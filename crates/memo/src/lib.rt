@@ -3,6 +3,8 @@
 // who searches (`nest::sweep` and others) makes the memory, of 0s.
 // Form 1: the constants are sizes of what is packed into the memory, and marks in it. 0 is what the memory is made with; an Option of a number takes 16 bytes for 8, so that the 64,784 bytes
 // that stand on the stack of each search would be 129,568.
+// Form 6: of all functions `listed` alone reaches into the lists and `again` alone into the cells; with a struct of two arrays one sum, `ENDS + ..`, would go, and
+// each parameter `memo`, here and in five crates above, would name the struct instead.
 // Form 5: the memory is lent to be written beside a table that is only read: in a struct of both each function would have to promise that the table is as it was.
 #![tactic(auto)]
 

@@ -12,7 +12,7 @@ use lib.Seq.{get_or-set_same, get_or-set_other, ext_get_or}
 use lib.IntN.{ℤ, pos}
 use Rattle.evaluator.specs.EvaluationEvaluationByNumber.{Values, Truths, shape_at, end_at, first_at, second_at, TermIs, ItemsIs, TruthIs}
 use Rattle.std.specs.Ordering.{is_le, is_lt, nat_cmp}
-use Rattle.std.proofs.lemmas.Map.Keys.{le_from_is_le}
+use Rattle.lexical.proofs.RangeTests.{ranged, inside_range}
 use Rattle.evaluator.specs.EvaluationEvaluationByNumber.{Inside, Bound, TermNode, ItemsNode}
 use Rattle.mentions.specs.MentionPromises.{Agree, Frames, TermFree, ItemsFree, TruthFree, Earlier, TermSays}
 
@@ -21,15 +21,9 @@ pub refused : {A : Type 0} → false ≡ true → A
 refused e = absurd (subst T (sym e) tt)
 
 -- what the `contains` of a range with its end answers: yes says that a node can end here
-both_yes : (a b : Bool) → a && b ≡ true → (a ≡ true) × (b ≡ true)
-both_yes true b e = (refl, e)
-both_yes false b e = refused e
-
 pub between : (x low high : ℕ) (past : Bool) → low ≡ 4 → high ≡ 16384 → past ≡ false
     → is_le (nat_cmp low x) && cond past (is_lt (nat_cmp x high)) (is_le (nat_cmp x high)) ≡ true → Inside x
-between x low high past a b f e =
-    let w = both_yes _ _ (sym (ap (λ (p : Bool). is_le (nat_cmp low x) && cond p (is_lt (nat_cmp x high)) (is_le (nat_cmp x high))) f) ∙ e) in
-    record { some = omega (arith, le_from_is_le low x w.0); within = omega (arith, le_from_is_le x high w.1) }
+between x low high past a b f e = let w = inside_range {x = x} (sym (ranged x a b f) ∙ e) in record { some = omega (arith, w.0); within = omega (arith, w.1) }
 
 -- ---- values that are the same but in one slot stay so where both get a value
 

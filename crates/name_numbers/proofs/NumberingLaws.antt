@@ -2,7 +2,7 @@
 use mathlib.Core.Path.{◌≡◌, refl, ap, ◌∙◌, sym, subst}
 use mathlib.Core.Bool.{Bool, true, false}
 use mathlib.Core.List.{List}
-use Prim.Native.Nat.{ℕ, zero, suc, ◌+◌, ◌≤◌, ◌<◌}
+use Prim.Native.Nat.{ℕ, suc, ◌+◌, ◌≤◌, ◌<◌}
 use native.Mathlib.Omega.{arith}
 use native.Mathlib.Numerals.{add-one}
 use lib.Dec.{eqb}
@@ -13,6 +13,7 @@ use Rattle.lexical.specs.SymbolPromises.{walk_from, IsFirst, Reached, reached, d
 use Rattle.lexical.specs.declared.Stop.{Stop}
 use Rattle.lexical.specs.declared.Stop.TheVariants.{At, Free, Deep}
 use Rattle.name_numbers.proofs.TreeLaws.{one_more, NotFree, at-node, free-zero, keep, insert}
+use Rattle.lexical.proofs.Zeros.{zero-at}
 
 abbrev pub walk_of : (letters tree : List ℕ) → ℕ → Stop
 walk_of letters tree j = walk_from 128 letters tree (get_or letters j 0) (get_or letters j 0) 8192
@@ -95,11 +96,6 @@ module _ {letters tree : List ℕ} {i : ℕ} (h : Tree letters tree i) where
             (subst (Reached letters i) (sym (ap (λ (x : ℕ). walk_of letters (set tree k x) i) (add-one i)
             ∙ insert letters (get_or letters i 0) tree k i l (eq-eqb (get_or letters i 0) (get_or letters i 0) refl) 128 (get_or letters i 0) 8192 free))
             (reached (first-new n))))
-
-pub zero-at : (n k : ℕ) → ◌≡◌ {A = ℕ} (get_or (replicate n 0) k 0) 0
-zero-at zero k = refl
-zero-at (suc n) zero = refl
-zero-at (suc n) (suc k) = zero-at n k
 
 -- the tree of no names
 pub tree-start : (letters : List ℕ) (n : ℕ) → Tree letters (replicate n 0) 0

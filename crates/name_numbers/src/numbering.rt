@@ -2,8 +2,9 @@
 //
 // The numbers of names that differ stand in a digital tree: slot 2m or 2m + 1 is below node m, by one bit of the letters, and slot 8192 is above all.
 // A slot holds a symbol's number and one, or 0. A walk takes a bit of the letters at each node, so it ends within the 128 bits of 16 letters.
-// Form 1: 0 is a free slot: with an `Option<u16>` in each of the 8,193 slots a scan took up to 1.06 times as long. 0 are also the letters of a symbol that is
-// no name, since a name has one; the letters of 4,096 symbols as `Option<u128>` would take 128 KB in place of 64.
+// Form 1: 0 is a free slot. The bar is that `read` gets no slower; with an `Option<u16>` in each of the 8,193 slots the scan of the six texts of tests/speed takes
+// 1.00 to 1.09 of the time (plain Rust at opt-level 3, best of 200: quantifiers 81 to 88 microseconds). 0 are also the letters of a symbol that is no name, since
+// a name has one; the letters of 4,096 symbols as `Option<u128>` would take 128 KB in place of 64.
 // Form 5: that i is below 4,096 is asked by five functions. A type for it would be made of the counter of the one loop that asks them, and turned back to a
 // number at each place of an array. Letters, tree and what is remembered in one struct would have a fourth part, how many symbols are in it, since `Tree` and
 // `Recent` speak of the first i symbols, and each method a clause more, which says what that number is behind it.
@@ -57,8 +58,9 @@ pub fn pack_names(
     requires { Rows s.now codes.now starts.now n }
     ensures { letters.new ≡ filled_letters s.now letters.old }
 {
+    // Form 3: after an adapter of `iter_mut` (`enumerate`, `zip`) nothing is known of what was written.
     for i in 0..n {
-        let at = starts[i] as usize;
+        let at = usize::from(starts[i]);
         let count = name_letters(s, codes[i], at);
         letters[i] = packed(&s[at..at + count]);
     }
@@ -81,7 +83,7 @@ pub fn walk(letters: &[u128; SYMBOLS], tree: &[u16; SLOTS], i: usize) -> Stop
     let mut p = a;
     let mut slot: usize = ROOT;
     for d in 0..DEEPEST {
-        let t = tree[slot] as usize;
+        let t = usize::from(tree[slot]);
         if t == 0 {
             return Stop::Free(slot);
         }
@@ -101,13 +103,7 @@ pub fn first_like(letters: &[u128; SYMBOLS], i: usize) -> usize
     ensures { IsFirst letters.now i result }
 {
     let a = letters[i];
-    (0..i)
-        .find(
-            |&m|
-                requires { m < 4096 }
-            { same_letters(letters, m, a) },
-        )
-        .unwrap_or(i)
+    letters[..i].iter().position(|b| *b == a).unwrap_or(i)
 }
 
 // The value of symbol i: of a name the number of the first one with its letters, which is put into the tree if it is i; of another symbol `old`.
@@ -139,7 +135,7 @@ pub fn recalled(
     ensures { Recalls letters.now i result }
 {
     let a = letters[i];
-    let m = recent[(a % LETTERS) as usize]? as usize;
+    let m = usize::from(recent[(a % LETTERS) as usize]?);
     same_letters(letters, m, a).then_some(m)
 }
 
@@ -182,6 +178,7 @@ pub fn number_names(
     pack_names(s, codes, starts, n, &mut letters);
     let mut tree = [0u16; SLOTS];
     let mut recent = [None; RECENT];
+    // Form 3: after an adapter of `iter_mut` (`enumerate`, `zip`) nothing is known of what was written.
     for i in 0..n {
         let old = values[i];
         values[i] = numbered(&letters, &mut tree, &mut recent, i, old);

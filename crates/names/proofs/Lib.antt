@@ -30,7 +30,6 @@ pub mod PassAgreesReach
 pub mod PassAgreesOperations
 pub mod PassAgreesDossier
 pub mod PassAgrees
-pub mod FaultlessParts
 -- what crates above name of crates below
 pub use Rattle.declared_names.proofs.DeclarationNodes as DeclaredNamesDeclarationNodes
 pub use Rattle.declared_names.proofs.NodePieces as DeclaredNamesNodePieces

@@ -144,19 +144,19 @@ module _ (d : Dossier) where
 -- ---- names in use ----
 
 module _ (d : Dossier) where
-  abstract-used : AreUsed (declarations d.abstract) (abstract_taken d)
+  pub abstract-used : AreUsed (declarations d.abstract) (abstract_taken d)
   abstract-used y e = use-left (state_names d.abstract) (given_names d.givens) y (sym (typed-use (declarations d.abstract) y) ∙ e)
 
-  abstract-still : AreUsed (declarations d.abstract) (concrete_taken d)
+  pub abstract-still : AreUsed (declarations d.abstract) (concrete_taken d)
   abstract-still y e = use-right (state_names d.concrete) (abstract_taken d) y (abstract-used y e)
 
-  concrete-used : AreUsed (declarations d.concrete) (concrete_taken d)
+  pub concrete-used : AreUsed (declarations d.concrete) (concrete_taken d)
   concrete-used y e = use-left (state_names d.concrete) (abstract_taken d) y (sym (typed-use (declarations d.concrete) y) ∙ e)
 
-  abstract-titles : TitlesIn d.givens (abstract_taken d)
+  pub abstract-titles : TitlesIn d.givens (abstract_taken d)
   abstract-titles = titles-more d.givens (state_names d.abstract) (given_names d.givens) (titles-given d.givens)
 
-  concrete-titles : TitlesIn d.givens (concrete_taken d)
+  pub concrete-titles : TitlesIn d.givens (concrete_taken d)
   concrete-titles = titles-more d.givens (state_names d.concrete) (abstract_taken d) abstract-titles
 
 empty_holds : (ρ : Numbering) (P : Letters → Type 0) (T : Names) → 16384 ≤ length T → ((x : ℕ) → entry T x ≡ 0) → Holds ρ P T (λ (y : Name). 0)

@@ -6,15 +6,11 @@ use Prim.Native.Nat.{ℕ, zero, suc, ◌*◌, ◌≤◌, ◌<◌}
 use native.Mathlib.Omega.{arith}
 use lib.Dec.{ltb}
 use borrow.Author.Tests.{ne_eqb, ltb-true, ltb-false, lt-ltb, le-ltb}
-use Rattle.refusals.specs.Refusals.{Fault, least}
+use Rattle.refusals.specs.Refusals.{Fault}
 use Rattle.refusals.proofs.RefusalNumbers.{small-number}
 use Rattle.type_rules.specs.TypesByNumber.{key_room, lesser, inside_key, least_key}
-use Rattle.names.proofs.TypesAgreeLeast.{lesser-zero, lesser-assoc, least-append, least-nil, one-fault}
+use Rattle.names.proofs.TypesAgreeLeast.{lesser-zero, lesser-assoc, least-append, least-nil, one-fault, zero-lesser, least-positive}
 use Rattle.names.proofs.PassAgreesPlaces.{Within, nowhere, at_place}
-
-zero-lesser : (b : ℕ) → lesser 0 b ≡ b
-unfolding lesser
-zero-lesser b = refl
 
 sucs-left : (a b : ℕ) → a ≤ b → lesser (suc a) (suc b) ≡ suc a
 unfolding lesser
@@ -106,10 +102,6 @@ ordered a b c d (suc k) (suc l) h m o =
 pub in_order : {a b c d : ℕ} {xs ys : List Fault} → Within a b xs → Within c d ys → b ≤ c → least_key (xs ++ ys) ≡ inside_key (least_key xs) (least_key ys)
 in_order {a} {b} {c} {d} {xs} {ys} h k o =
     least-append xs ys ∙ ordered a b c d (least_key xs) (least_key ys) (least-between h) (least-between k) o
-
-least-positive : (x : Fault) (xs : List Fault) → 1 ≤ least_key (x ∷ xs)
-unfolding least
-least-positive x xs = omega arith
 
 first-only : (j m n : ℕ) → 1 ≤ j → inside_key j m ≡ inside_key j n
 first-only zero m n h = absurd (omega arith)

@@ -56,7 +56,7 @@ variables-ending e (d ∷ ds) y h = on (same_name (name_of d.declared e) y) refl
     on true k h r = sym (ap (λ (m : Name). ending_code m.ending) (same-name (name_of d.declared e) y k))
     on false k h r = r h
 
-direction-ending : (c : Direction) → 2 ≤ ending_code (ending_of c)
+pub direction-ending : (c : Direction) → 2 ≤ ending_code (ending_of c)
 direction-ending inward = omega arith
 direction-ending outward = omega arith
 

@@ -1,4 +1,5 @@
 -- The parts of a dossier by their nodes: where declarations and predicates end, and what the pass makes of states and of the three conditions.
+use mathlib.Core.Logic.{◌⊎◌, inl, inr}
 use mathlib.Core.Path.{◌≡◌, refl, ap, sym, ◌∙◌, subst}
 use mathlib.Core.List.{List, [], ◌∷◌, ◌++◌, append_assoc}
 use Prim.Native.Nat.{ℕ, zero, suc, ◌+◌, ◌-◌, ◌*◌, ◌/◌, ◌≤◌, ◌<◌, min}
@@ -156,6 +157,10 @@ back code n a b e l = ap (λ (c : List ℕ). drop n c) e ∙ drop_at a b n (sym 
 -- a part from a place to the end
 pub part-tail : (l : List ℕ) (k : ℕ) → take (length l - k) (drop k l) ≡ drop k l
 part-tail l k = take_all (length l - k) (drop k l) (rw length-drop (omega arith))
+
+-- what `get` says of the nodes behind a heading: there are too few, or these are they
+pub no-heading : {n : ℕ} → (n < 4) ⊎ (n < n) → n < 4
+no-heading h = elim h [ inl w ↦ w | inr w ↦ absurd (omega arith) ]
 
 -- a predicate's first node is no declaration's
 no-declaration : (i : ℕ) (p : Pred) (ρ : Numbering) → get_or (condition_codes i p ρ) 3 0 ≡ 6 → ⊥

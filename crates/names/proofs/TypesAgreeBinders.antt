@@ -31,7 +31,7 @@ pub data View (gs : List Given) (z : Sizes) (l : Letters) : Option Given → ℕ
   one_given : {k : ℕ} (g : Given) → g.title ≡ l → titled gs g.title ≡ true → index_of gs g.title < 8 → size_in z (index_of gs g.title) ≡ size_of g
       → k ≡ 8 + index_of gs g.title → View gs z l (some g) k
 
-given_yes : (k n : ℕ) → n < 8 → k ≡ 8 + n → is_given k ≡ true
+pub given_yes : (k n : ℕ) → n < 8 → k ≡ 8 + n → is_given k ≡ true
 unfolding is_given
 given_yes k n h e = ap₂ ◌&&◌ (le-leb 8 k (omega arith)) (lt-ltb k 16 (omega arith))
 
@@ -44,7 +44,7 @@ abbrev pub bound_over : Option Given → Carrier
 bound_over none = Carrier.numbers (pos 0) (pos 0)
 bound_over (some g) = elements_of g
 
-minus-eight : (k n : ℕ) → k ≡ 8 + n → k - 8 ≡ n
+pub minus-eight : (k n : ℕ) → k ≡ 8 + n → k - 8 ≡ n
 minus-eight k n e = omega arith
 
 module _ (gs : List Given) (z : Sizes) where

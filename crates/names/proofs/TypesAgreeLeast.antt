@@ -23,7 +23,7 @@ lesser-zero a = on (eqb a 0) refl
     on true q = sym (eqb-true a 0 q)
     on false q = refl
 
-positive : (a : ℕ) → 1 ≤ a → a ≡ 0 → ⊥
+pub positive : (a : ℕ) → 1 ≤ a → a ≡ 0 → ⊥
 positive a h e = omega arith
 
 lesser-right : (a b : ℕ) → 1 ≤ b → b < a → lesser a b ≡ b
@@ -34,7 +34,7 @@ lesser-left : (a b : ℕ) → 1 ≤ a → a ≤ b → lesser a b ≡ a
 unfolding lesser
 lesser-left a b h le = rw (ne_eqb a 0 (positive a h), ne_eqb b 0 (positive b (omega arith)), le-ltb b a le)
 
-zero-lesser : (b : ℕ) → lesser 0 b ≡ b
+pub zero-lesser : (b : ℕ) → lesser 0 b ≡ b
 unfolding lesser
 zero-lesser b = refl
 
@@ -120,7 +120,7 @@ pub least-nil : least_key [] ≡ 0
 unfolding least
 least-nil = refl
 
-least-positive : (f : Fault) (fs : List Fault) → 1 ≤ least_key (f ∷ fs)
+pub least-positive : (f : Fault) (fs : List Fault) → 1 ≤ least_key (f ∷ fs)
 unfolding least
 least-positive f fs = omega arith
 

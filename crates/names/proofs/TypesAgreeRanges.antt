@@ -18,11 +18,11 @@ use Rattle.names.proofs.ReachTables.{RangeIn}
 use Rattle.names.proofs.TypesAgreeLeast.{unless-least}
 
 -- the number k stands for the integer z: it is z + 1,000
-data Stands : ℤ → ℕ → Type 0 where
+pub data Stands : ℤ → ℕ → Type 0 where
   above : {a k : ℕ} → k ≡ 1000 + a → Stands (pos a) k
   below : {a k : ℕ} → k + suc a ≡ 1000 → Stands (negsuc a) k
 
-end-stands : (b : Bool) (m : ℕ) → m ≤ 1000 → Stands (signed b m) (cond b (1000 - m) (1000 + m))
+pub end-stands : (b : Bool) (m : ℕ) → m ≤ 1000 → Stands (signed b m) (cond b (1000 - m) (1000 + m))
 end-stands true zero h = above {a = 0} {k = 1000 - 0} (omega arith)
 end-stands true (suc m) h = below {a = m} {k = 1000 - suc m} (omega arith)
 end-stands false m h = above refl

@@ -53,7 +53,7 @@ Is (some g) = Unit {0}
 none-some : {A : Type 0} {g : Given} → none ≡ some g → A
 none-some e = absurd (subst Is (sym e) tt)
 
-some_one : (g h : Given) → ◌≡◌ {A = Option Given} (some g) (some h) → g ≡ h
+pub some_one : (g h : Given) → ◌≡◌ {A = Option Given} (some g) (some h) → g ≡ h
 some_one g h e = cc
 
 -- the given set g is found by the name x

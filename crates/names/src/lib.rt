@@ -5,7 +5,7 @@ ghost use Rattle.std.specs.Prelude.{length, replicate};
 ghost use Rattle.type_rules.specs.Passes.{refused_key};
 ghost use Rattle.declared_names.specs.PassPromises.{GivenSeen, CheckSeen};
 
-use crate::passes::check;
+use crate::passes::{States, conditions, operations, part, state, variables_of};
 use declared_names::declared::give;
 use lexical::{bounds, endings};
 use parser::sections::{Bounds, Nodes};
@@ -26,7 +26,23 @@ pub const SIZES: usize = bounds::GIVEN_SETS as usize;
 pub fn least_fault(made: &Nodes<'_>, at: &Bounds, sizes: &mut [u16; SIZES]) -> Result<(), Fault>
     ensures { CheckSeen made.now.numbers.now made.now.end at.now.givens at.now.abstracts at.now.concretes at.now.ainit at.now.operations 16384 sizes.new (refused_key result) }
 {
-    check(made, at, sizes)
+    let nodes = made.numbers;
+    let mut names = [entries::FREE; NAMES];
+    sizes.fill(0);
+    let first = part(nodes, at.givens, at.abstracts);
+    give(first, &mut names, sizes)?;
+    let one = part(nodes, at.abstracts, at.concretes);
+    state(one, &mut names, sizes)?;
+    let two = part(nodes, at.concretes, at.ainit);
+    state(two, &mut names, sizes)?;
+    let states = States {
+        abstracts: variables_of(one),
+        concretes: variables_of(two),
+    };
+    let three = part(nodes, at.ainit, at.operations);
+    let last = part(nodes, at.operations, made.end);
+    conditions(three, &states, &mut names, sizes)?;
+    operations(last, &states, &mut names, sizes)
 }
 
 // The given sets by name, and how many elements each has, from the nodes of their bodies: the first fault of number 8 among them.

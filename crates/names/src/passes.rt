@@ -1,13 +1,13 @@
-// The pass over a whole dossier, in the order of the text: the first fault is the least.
+// The parts of a dossier, in the order of the text: the first fault is the least.
+// Form 5: names are written and sizes are read: a struct of both would be lent to be written to each of the seven functions here that take them, and each would
+// promise besides that the sizes stay.
 ghost use Rattle.std.specs.Prelude.{◌+◌, ◌*◌, ◌≤◌, length};
 ghost use Rattle.type_rules.specs.Passes.{refused_key};
-ghost use Rattle.declared_names.specs.PassPromises.{DeclaredEnd, PredicateEnd, OperationEnd, ConditionSeen, StateSeen, ReachingSeen, LeavingSeen, SideSeen, SidesSeen, OperationSeen, OperationsSeen, ConditionsSeen, PartOf, VariablesOf, CheckSeen};
+ghost use Rattle.declared_names.specs.PassPromises.{DeclaredEnd, PredicateEnd, OperationEnd, ConditionSeen, StateSeen, SideSeen, SidesSeen, OperationSeen, OperationsSeen, ConditionsSeen, PartOf, VariablesOf};
 
-use crate::NAMES;
-use declared_names::declared::{declare, give, hide, show};
+use declared_names::declared::{declare, hide, show};
 use form::name_endings::{PLAIN, PRIMED};
 use form::{node, shapes};
-use parser::sections::{Bounds, Nodes};
 use refusals::{Fault, Refusal};
 use type_rules::entries;
 use type_rules::entries::Kind;
@@ -51,44 +51,30 @@ fn condition(code: &[u16], names: &mut [Kind], sizes: &[u16]) -> Result<(), Faul
 }
 
 // A state, from its heading on: its variables are in use behind it.
-fn state(code: &[u16], names: &mut [Kind], sizes: &[u16]) -> Result<(), Fault>
+pub(crate) fn state(code: &[u16], names: &mut [Kind], sizes: &[u16]) -> Result<(), Fault>
     ensures { StateSeen code.now names.old names.new sizes.now (refused_key result) }
 {
-    if code.len() < node::SIZE {
+    let Some(rest) = code.get(node::SIZE..) else {
         return Ok(());
-    }
-    let rest = &code[node::SIZE..];
-    let e = declared_end(rest);
-    let variables = &rest[..e];
+    };
+    let (variables, predicate) = rest.split_at(declared_end(rest));
     declare(variables, names, sizes)?;
-    let g = condition(&rest[e..], names, sizes);
+    let g = condition(predicate, names, sizes);
     hide(variables, PLAIN, entries::USED, names);
     g
 }
 
-// The variables of a state come into reach, plain and primed.
-fn reach_all(variables: &[u16], names: &mut [Kind])
-    ensures { ReachingSeen variables.now names.old names.new }
-{
-    show(variables, PLAIN, names);
-    show(variables, PRIMED, names);
-}
-
-// They are out of reach again, and their plain names in use.
-fn leave_all(variables: &[u16], names: &mut [Kind])
-    ensures { LeavingSeen variables.now names.old names.new }
-{
-    hide(variables, PLAIN, entries::USED, names);
-    hide(variables, PRIMED, entries::FREE, names);
-}
-
-// A predicate of an operation, with the variables of its state.
+// A predicate of an operation, with the variables of its state in reach, plain and primed; behind it their plain names are in use.
+// Form 2: `set_side` of tables makes the same four calls around another pass; one function for both would take that pass as a closure, which there would write
+// places and table, and what a closure has written is known to no law once it is gone (as at `states::all_hold`).
 fn side(code: &[u16], variables: &[u16], names: &mut [Kind], sizes: &[u16]) -> Result<(), Fault>
     ensures { SideSeen code.now variables.now names.old names.new sizes.now (refused_key result) }
 {
-    reach_all(variables, names);
+    show(variables, PLAIN, names);
+    show(variables, PRIMED, names);
     let f = condition(code, names, sizes);
-    leave_all(variables, names);
+    hide(variables, PLAIN, entries::USED, names);
+    hide(variables, PRIMED, entries::FREE, names);
     f
 }
 
@@ -96,9 +82,9 @@ fn side(code: &[u16], variables: &[u16], names: &mut [Kind], sizes: &[u16]) -> R
 fn sides(code: &[u16], states: &States<'_>, names: &mut [Kind], sizes: &[u16]) -> Result<(), Fault>
     ensures { SidesSeen code.now states.now.abstracts.now states.now.concretes.now names.old names.new sizes.now (refused_key result) }
 {
-    let e = predicate_end(code, 0);
-    side(&code[..e], states.abstracts, names, sizes)?;
-    side(&code[e..], states.concretes, names, sizes)
+    let (first, second) = code.split_at(predicate_end(code, 0));
+    side(first, states.abstracts, names, sizes)?;
+    side(second, states.concretes, names, sizes)
 }
 
 // An operation, from its heading on, with the variables of both states.
@@ -110,9 +96,9 @@ fn operation(
 ) -> Result<(), Fault>
     ensures { OperationSeen code.now states.now.abstracts.now states.now.concretes.now names.old names.new sizes.now (refused_key result) }
 {
-    if code.len() < node::SIZE {
+    let Some(rest) = code.get(node::SIZE..) else {
         return Ok(());
-    }
+    };
     let x = usize::from(code[node::A]);
     let old = entry(names, x);
     let titled = unless(
@@ -122,11 +108,9 @@ fn operation(
     );
     all_well(titled)?;
     put(names, x, entries::USED);
-    let rest = &code[node::SIZE..];
-    let e = declared_end(rest);
-    let parameters = &rest[..e];
+    let (parameters, predicates) = rest.split_at(declared_end(rest));
     declare(parameters, names, sizes)?;
-    let h = sides(&rest[e..], states, names, sizes);
+    let h = sides(predicates, states, names, sizes);
     hide(parameters, PLAIN, entries::FREE, names);
     h
 }
@@ -144,7 +128,7 @@ fn operation_end(code: &[u16], at: usize) -> usize
 }
 
 // Form 3: how long an operation is, `operation_end` answers; an iterator of them would be a type with laws of its own for this one walk.
-fn operations(
+pub(crate) fn operations(
     code: &[u16],
     states: &States<'_>,
     names: &mut [Kind],
@@ -162,7 +146,7 @@ fn operations(
 }
 
 // ainit, cinit, retrieve.
-fn conditions(
+pub(crate) fn conditions(
     code: &[u16],
     states: &States<'_>,
     names: &mut [Kind],
@@ -192,37 +176,12 @@ pub fn part(nodes: &[u16], from: usize, to: usize) -> &[u16]
 }
 
 // The nodes of the variables of a state.
-fn variables_of(code: &[u16]) -> &[u16]
+pub(crate) fn variables_of(code: &[u16]) -> &[u16]
     ensures { VariablesOf code.now result.now }
 {
-    if code.len() < node::SIZE {
+    let Some(rest) = code.get(node::SIZE..) else {
         return code;
-    }
-    let rest = &code[node::SIZE..];
+    };
     let e = declared_end(rest);
     &rest[..e]
-}
-
-// The least fault of the pass, with its place by symbols.
-pub(crate) fn check(made: &Nodes<'_>, at: &Bounds, sizes: &mut [u16]) -> Result<(), Fault>
-    requires { 8 ≤ length sizes.old }
-    ensures { CheckSeen made.now.numbers.now made.now.end at.now.givens at.now.abstracts at.now.concretes at.now.ainit at.now.operations 16384 sizes.new (refused_key result) }
-{
-    let nodes = made.numbers;
-    let mut names = [entries::FREE; NAMES];
-    sizes.fill(0);
-    let first = part(nodes, at.givens, at.abstracts);
-    give(first, &mut names, sizes)?;
-    let one = part(nodes, at.abstracts, at.concretes);
-    state(one, &mut names, sizes)?;
-    let two = part(nodes, at.concretes, at.ainit);
-    state(two, &mut names, sizes)?;
-    let states = States {
-        abstracts: variables_of(one),
-        concretes: variables_of(two),
-    };
-    let three = part(nodes, at.ainit, at.operations);
-    let last = part(nodes, at.operations, made.end);
-    conditions(three, &states, &mut names, sizes)?;
-    operations(last, &states, &mut names, sizes)
 }

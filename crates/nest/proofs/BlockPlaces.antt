@@ -6,10 +6,10 @@ use native.Mathlib.Nat.{mod-lt, mul-le-mul}
 use native.Mathlib.Omega.{arith}
 use lib.Arith.{digits_div, digits_mod}
 use Rattle.plans.specs.declared.Part.{Part}
-use Rattle.nest_steps.specs.PartTests.{PartTests, passes_at, passes_from}
+use Rattle.nest_steps.specs.PartTests.{PartTests, passes_at, passes_from, passing}
 use Rattle.nest.proofs.PassedPlaces.{Past}
 use Rattle.nest_steps.proofs.PassingBlocks.{div_in, passes-here}
-use Rattle.nest.proofs.LoopStates.{per_concrete, per_abstract, passing}
+use Rattle.nest.proofs.LoopStates.{per_concrete, per_abstract}
 use Rattle.nest_steps.specs.PassedBlocks.{PairPasses, WholePasses}
 
 -- ---- from blocks to places

@@ -5,3 +5,5 @@ pub mod NestedLoops
 pub mod Products
 pub mod BlockPlaces
 pub mod MarkedBlocks
+-- what crates above name of crates below
+pub use Rattle.memo.proofs.Memos as MemoMemos

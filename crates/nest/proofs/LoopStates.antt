@@ -9,7 +9,7 @@ use Rattle.sets.specs.Sets.{has}
 use Rattle.plans.specs.PointsPoints.{Point, number_of, Shows, Beside}
 use Rattle.plans.specs.PointsSearches.{Sought}
 use Rattle.plans.specs.declared.Part.{Part}
-use Rattle.nest_steps.specs.PartTests.{PartTests, passes_from}
+use Rattle.nest_steps.specs.PartTests.{PartTests, passing}
 use Rattle.nest_steps.specs.NestPromises.{Groups, Nest, NestAsked, Stepped}
 use Rattle.nest.proofs.PassedPlaces.{Past, past-step, past_open, past-enter, past-leave, past_same}
 
@@ -90,9 +90,6 @@ per_concrete p = p.inputs.bindings * (p.outputs.bindings * p.primes.bindings)
 
 abbrev pub per_abstract : Part → ℕ
 per_abstract p = p.concretes.bindings * (p.inputs.bindings * (p.outputs.bindings * p.primes.bindings))
-
-abbrev pub passing : Part → PartTests → ℕ → Bool
-passing p T = passes_from T p.concretes.bindings p.inputs.bindings p.outputs.bindings p.primes.bindings
 
 -- the premises of what is chosen
 pub record StateHolds (p : Part) (T : PartTests) (a mask : ℕ) : Type 0 where

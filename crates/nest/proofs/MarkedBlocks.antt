@@ -53,7 +53,7 @@ module _ {table plan cells : List ℕ} {p : Part} where
               let z = (l.each G T N).stands in
               let k : key_in cells (concrete_group p m) c < p.concretes.bindings = key-low (concrete-asked N m) c hc in
               subst (λ (x : ℕ). SeenPairs p T (key_in cells (pair_group p m)) (key_in cells (concrete_group p m)) (set seen (key_in cells (concrete_group p m) c) x)) (sym e)
-              (pair-seen a c (keys_of-pairs N z.point z.shows.tame) (s.each G T N) ha hc (omega (arith, k, s.long, N.sized.few_c.1))
+              (pair-seen a c (keys_of-pairs N z.point z.shows.tame) (s.each G T N) ha hc (omega (arith, k, s.long, N.sized.concretes.few))
               z.fixed.up.state z.fixed.related
               (pair-passed a c hc (w.low q) (last (a * p.concretes.bindings + c) (per_concrete p) end (w.high q)) (past-leave p.inputs.bindings (per_input p) (a * p.concretes.bindings + c) i h l.high z.past)))
 

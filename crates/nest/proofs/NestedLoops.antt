@@ -10,7 +10,7 @@ use lib.IntN.{ℤ}
 use Rattle.plans.specs.declared.Part.{Part}
 use Rattle.idle_variables.specs.KeyPromises.{key_in}
 use Rattle.nest_steps.specs.declared.blocks.Masks.{Masks}
-use Rattle.nest_steps.specs.PartTests.{PartTests}
+use Rattle.nest_steps.specs.PartTests.{PartTests, places, passing}
 use Rattle.nest_steps.specs.NestPromises.{Groups, Nest, NestAsked, ReadyAnswers, InputAnswers, OutputAnswers, AfterAnswers}
 use Rattle.nest.specs.SweepPromises.{SweepAnswers}
 use Rattle.nest_steps.specs.OpenBlocks.{pair_group, OpenConcrete, OpenAbstract}
@@ -18,7 +18,7 @@ use Rattle.nest_steps.specs.Remembering.{numbered, BindingAsked, AgainAnswers}
 use Rattle.nest_steps.proofs.KeptGroups.{abstracts-ready, abstracts-meeting, concretes-meeting, inputs-meeting, outputs-meeting, asked-after}
 use Rattle.nest.proofs.PassedPlaces.{Past, past-before, past_same, past_more, past-leave, looked-all, looked-fault}
 use Rattle.nest_steps.proofs.PassingBlocks.{premises-hold, passes-here}
-use Rattle.nest.proofs.LoopStates.{Standing, stands_same, stands-in, stands-out, per_input, per_concrete, per_abstract, passing, StateHolds, FrontHolds}
+use Rattle.nest.proofs.LoopStates.{Standing, stands_same, stands-in, stands-out, per_input, per_concrete, per_abstract, StateHolds, FrontHolds}
 use Rattle.nest.proofs.LoopStates.{OfAbstract, OfOutput, InAbstracts, InConcretes, InInputs, InOutputs, InAfters}
 use Rattle.nest.proofs.NextCandidates.{no_outer, keep-abstract, keep-output, step-abstracts, step-concretes, step-inputs, step-outputs, step-afters, sought-afters}
 
@@ -168,7 +168,7 @@ module _ {table plan cells : List ℕ} {p : Part} {from end : ℕ} where
       let z = l.asked.nest.sized in
       record {
         asked = l.asked;
-        inside = record { low_a = (ha, z.few_a.1); low_c = (hc, z.few_c.1); low_i = (hi, z.few_i.1); low_o = (ho, z.few_o.1); low_k = (hk, z.few_k.1) };
+        inside = record { low_a = (ha, z.abstracts.few); low_c = (hc, z.concretes.few); low_i = (hi, z.inputs.few); low_o = (ho, z.outputs.few); low_k = (hk, z.primes.few) };
         each = λ G T N.
             let w = l.each G T N in
             let n = w.stands.numbers in
@@ -232,7 +232,7 @@ module _ {table plan cells : List ℕ} {p : Part} {from end : ℕ} where
       answered h g e (λ G T N. past_same (ap (λ (t : ℕ). t * per_abstract p) (no_outer p.abstracts.bindings a)) (l.each G T N).stands.past)
 
   pub leave-last : {a : ℕ} {failing : Option ℕ} {s : List (List ℤ)} → from ≤ end → InAbstracts table plan cells p from end a s → p.abstracts.bindings ≤ a
-      → end ≤ p.abstracts.bindings * p.concretes.bindings * p.inputs.bindings * p.outputs.bindings * p.primes.bindings → failing ≡ None → SweepAnswers table plan cells p from end failing
+      → end ≤ places p → failing ≡ None → SweepAnswers table plan cells p from end failing
   leave-last {a} h l g m e = leave-abstracts h l (reached p.abstracts.bindings p.concretes.bindings p.inputs.bindings p.outputs.bindings p.primes.bindings a g m) e
     where
       reached : (na nc ni nq nk a : ℕ) → na ≤ a → end ≤ na * nc * ni * nq * nk → end ≤ a * (nc * (ni * (nq * nk)))

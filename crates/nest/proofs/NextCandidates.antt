@@ -1,4 +1,5 @@
 -- A loop of the nest at its next candidate: a search from where it stands. Assumes nothing.
+-- Form 8: a law for each loop, over the records of specs/ for what its search answers, which differ; what the five have in common is `at-step` and `at_open` of `LoopStates`.
 use mathlib.Core.Path.{◌≡◌, sym, ap, ap₂, subst, ◌∙◌}
 use mathlib.Core.Bool.{Bool, true, false}
 use mathlib.Core.List.{List}
@@ -12,27 +13,27 @@ use Rattle.plans.proofs.PointsPointNumbers.{number-apart, sought-same}
 use Rattle.plans.specs.declared.Part.{Part}
 use Rattle.idle_variables.specs.KeyPromises.{key_in}
 use Rattle.nest_steps.specs.declared.blocks.Masks.{Masks}
-use Rattle.nest_steps.specs.PartTests.{PartTests}
+use Rattle.nest_steps.specs.PartTests.{PartTests, passing}
 use Rattle.nest_steps.specs.PassedBlocks.{PairPasses}
 use Rattle.nest_steps.specs.OpenBlocks.{pair_group, OpenConcrete, OpenAbstract}
 use Rattle.nest_steps.specs.NestPromises.{Groups, Sized, Nest, NestAsked, InputAnswers, OutputAnswers, AfterAnswers}
 use Rattle.nest_steps.proofs.KeptGroups.{abstracts-concretes, abstracts-inputs, abstracts-outputs, abstracts-primes, concretes-inputs, concretes-outputs}
 use Rattle.nest_steps.proofs.KeptGroups.{concretes-primes, inputs-outputs, inputs-primes, outputs-primes, front_out, asked-after}
 use Rattle.nest_steps.proofs.PassingBlocks.{ready-block, front-block, steps-block}
-use Rattle.nest.proofs.LoopStates.{Standing, at-step, at_open, per_input, per_concrete, per_abstract, passing, StateHolds, RelatedHolds, ReadyHolds, FrontHolds}
+use Rattle.nest.proofs.LoopStates.{Standing, at-step, at_open, per_input, per_concrete, per_abstract, StateHolds, RelatedHolds, ReadyHolds, FrontHolds}
 use Rattle.nest.proofs.BlockPlaces.{pair-places, whole-places}
 use Rattle.nest.proofs.LoopStates.{OfAbstract, OfConcrete, OfInput, OfOutput, InAbstracts, InConcretes, InInputs, InOutputs, InAfters}
 
 -- ---- sizes
 
 pub some-input : {cells : List ℕ} {p : Part} {G : Groups} → Sized cells p G → 0 < per_input p
-some-input z = mul-pos z.few_o.0 z.few_k.0
+some-input z = mul-pos z.some_o z.some_k
 
 pub some-concrete : {cells : List ℕ} {p : Part} {G : Groups} → Sized cells p G → 0 < per_concrete p
-some-concrete z = mul-pos z.few_i.0 (some-input z)
+some-concrete z = mul-pos z.some_i (some-input z)
 
 pub some-abstract : {cells : List ℕ} {p : Part} {G : Groups} → Sized cells p G → 0 < per_abstract p
-some-abstract z = mul-pos z.few_c.0 (some-concrete z)
+some-abstract z = mul-pos z.some_c (some-concrete z)
 
 -- ---- the numbers of groups that a search does not write
 
@@ -79,7 +80,7 @@ module _ {table plan cells : List ℕ} {p : Part} {from end : ℕ} {before after
         each = λ G T N. (let z = N.sized in
             at_open G.abstracts T.state p.abstracts.bindings (per_abstract p) 0 b d after (some-abstract z) (w G T N) (r.found G T N)
             (r.left G T (w G T N).point N (w G T N).shows) (λ ε _. tt)
-            (λ e l g j h. whole-places p T z.few_i.0 z.few_o.0 z.few_k.0 z.few_c.0 e (r.past G T N e l g) j (h ∙ no_outer p.abstracts.bindings e)));
+            (λ e l g j h. whole-places p T z.some_i z.some_o z.some_k z.some_c e (r.past G T N e l g) j (h ∙ no_outer p.abstracts.bindings e)));
       }
 
   -- with the mark of the abstract state
@@ -98,7 +99,7 @@ module _ {table plan cells : List ℕ} {p : Part} {from end : ℕ} {before after
             (λ h. sym (ap (λ (t : ℕ). T.related t d) (w G T N).numbers.abstract_is) ∙ r.found G T (w G T N).point N (w G T N).shows h)
             (r.left G T (w G T N).point N (w G T N).shows)
             (λ ε h. keep-abstract G.concretes h (abstracts-concretes N) (w G T N).numbers)
-            (λ e l g j h. pair-places p T N.sized.few_i.0 N.sized.few_o.0 N.sized.few_k.0 a e (inside e g) (over G T N e l g) j h);
+            (λ e l g j h. pair-places p T N.sized.some_i N.sized.some_o N.sized.some_k a e (inside e g) (over G T N e l g) j h);
       }
     where
       inside : (e : ℕ) → e < d → e < p.concretes.bindings
@@ -138,10 +139,10 @@ module _ {table plan cells : List ℕ} {p : Part} {from end : ℕ} {before after
         asked = asked-after (λ G. G.outputs) q r.left;
         low = lower _ _ _ _ low s.low;
         high = s.high;
-        each = λ G T N. at-step G.outputs (T.front c i) p.outputs.bindings p.primes.bindings ((a * p.concretes.bindings + c) * p.inputs.bindings + i) b d after N.sized.few_k.0 (w G T N)
+        each = λ G T N. at-step G.outputs (T.front c i) p.outputs.bindings p.primes.bindings ((a * p.concretes.bindings + c) * p.inputs.bindings + i) b d after N.sized.some_k (w G T N)
             (here G T N) (r.left G T (w G T N).point N (w G T N).shows)
             (λ ε h. keep-input G.outputs h (abstracts-outputs N) (concretes-outputs N) (inputs-outputs N) (w G T N).numbers)
-            (λ j e l h. front-block T p.concretes.bindings p.inputs.bindings p.outputs.bindings p.primes.bindings a c i j (w G T N).fixed.up.low (w G T N).fixed.low N.sized.few_k.0 e
+            (λ j e l h. front-block T p.concretes.bindings p.inputs.bindings p.outputs.bindings p.primes.bindings a c i j (w G T N).fixed.up.low (w G T N).fixed.low N.sized.some_k e
             (λ k g. excluded G T N (j / p.primes.bindings % p.outputs.bindings) k l g h));
       }
     where

@@ -2,10 +2,12 @@
 // it lies in a block that passes as one did that was looked at whole. Places are counted by arithmetic.
 // Form 3: these are the labelled loops of document 01's last section, and the next candidate of a group is what its search answers: an iterator over the answers would have to own the
 // slots and the memory, which the loops inside write too.
-// Form 5: the slots are lent to be written beside a search that is only read; the two places of a sweep are other ones for each part.
+// Form 5: the slots are lent to be written beside a search that is only read (nest_steps/src/lib.rt). `from` and `end` come from one call, in `parts::sweep_part`, and go to two calls of
+// `is_within`: as a `Range`, the five divisions and differences with `from` and the three tests of `end` would each name its field.
 #![tactic(auto)]
 
-ghost use Rattle.std.specs.Prelude.{◌*◌, ◌≤◌};
+ghost use Rattle.std.specs.Prelude.{◌≤◌};
+ghost use Rattle.nest_steps.specs.PartTests.{places};
 ghost use Rattle.nest_steps.specs.NestPromises.{NestAsked};
 ghost use Rattle.nest.specs.SweepPromises.{SweepAnswers};
 
@@ -26,7 +28,7 @@ pub fn sweep(
     end: usize,
     slots: &mut [[i64; 64]; 2],
 ) -> Option<usize>
-    requires from_le_end { (from ≤ end) × (end ≤ s.now.part.abstracts.bindings * s.now.part.concretes.bindings * s.now.part.inputs.bindings * s.now.part.outputs.bindings * s.now.part.primes.bindings) }
+    requires from_le_end { (from ≤ end) × (end ≤ places s.now.part) }
     requires nest_asked { NestAsked s.now.table.now s.now.plan.now s.now.cells.now s.now.part slots.old }
     ensures { SweepAnswers s.now.table.now s.now.plan.now s.now.cells.now s.now.part from end result }
 {

@@ -6,7 +6,6 @@ use Prim.Native.Nat.{ℕ, suc, ◌+◌, ◌*◌, ◌/◌, ◌%◌, ◌<◌, ◌�
 use native.Mathlib.Nat.{mod-lt}
 use native.Mathlib.Decide.{dec_lt}
 use native.Mathlib.Omega.{arith}
-use borrow.Author.Tests.{lt-ltb, le-ltb}
 use lib.ListN.{get_or, length, set, length-set}
 use lib.Seq.{get_or-set_same, get_or-set_other}
 use lib.IntN.{ℤ, pos}
@@ -19,12 +18,11 @@ use Rattle.carriers.specs.ValuesByNumber.{value_at, digit, binding_at}
 use Rattle.carriers.proofs.Values.{count-some}
 use Rattle.carriers.proofs.Bindings.{bindings-some, bindings-at, digit-small, digit-below, again_rest}
 use Rattle.slot_carriers.specs.Cells.{value_in, CellOf}
-use Rattle.slot_carriers.specs.CellGroups as groups
 use Rattle.slot_carriers.specs.CellGroups.{CellsOf, Grouped, Holding, HoldsBinding, Others}
 use Rattle.slot_carriers.proofs.CarrierCells.{value_of}
 use Rattle.points.specs.Points.{Point, primed_slot, span, moved, placed, Shows}
 use Rattle.points.proofs.PointNumbers.{Counts, moved_here, placed-other, tame-placed}
-use Rattle.points.proofs.PointBindings.{span-count, group-counts}
+use Rattle.points.proofs.PointBindings.{span-count, group-counts, primed-high}
 
 -- ---- the digits of a binding's number
 
@@ -63,14 +61,6 @@ values-placed cells s (v ∷ vs) k δ σ w h b t (inr m) =
 
 -- ---- the arrays
 
-primed-high : (t : ℕ) → t < 16 → 22 ≤ primed_slot t
-unfolding primed_slot
-primed-high t h =
-    elim (dec_lt t 8) [
-      | yes q ↦ rw (lt-ltb t 8 q) (omega arith)
-      | no q ↦ (let g : 8 ≤ t = omega arith in rw (le-ltb t 8 g) (omega arith))
-    ]
-
 -- all slots but those of the group have the values that they had
 pub bound-shows : (cells : List ℕ) (n k : ℕ) (δ : Point) (before : List (List ℤ)) (σ : List ℤ) → n ≤ 3 → Grouped cells 16 n → k < span cells (upward 16 n)
     → HoldsBinding cells 16 n k σ → Others (pos 0) (get_or before 0 []) 16 n σ → Shows cells δ before → Shows cells (placed cells (upward 16 n) δ k) (set before 0 σ)
@@ -91,7 +81,7 @@ bound-shows cells n k δ before σ few g low holds others w =
     there = get_or-set_other before 0 1 σ [] (omega arith)
 
     beyond : (t : ℕ) → t < 16 → Among (primed_slot t) (upward 16 n) → ⊥
-    beyond t h m = let a = among-upward 16 n (primed_slot t) m in let b = primed-high t h in omega arith
+    beyond t h m = let a = among-upward 16 n (primed_slot t) m in let b = primed-high t in omega arith
 
     bound : (vs : List Variable) → CellsOf cells 16 vs → length vs ≡ n → (s : ℕ) → Among s (upward 16 n) → get_or σ s (pos 0) ≡ value_in cells s (placed cells (upward 16 n) δ k s)
     bound vs c e s m =
@@ -112,7 +102,3 @@ bound-shows cells n k δ before σ few g low holds others w =
             | no m ↦ outside s h (λ a. (let b = among-upward 16 n s a in omega arith)) (others.above s (omega arith))
           ]
         ]
-
--- how many bindings they have
-pub inputs-count : (cells : List ℕ) (n w : ℕ) → w ≡ span cells (upward 16 n) → groups.Counts cells 16 n w
-inputs-count cells n w e vs c l = e ∙ sym (ap (λ (x : ℕ). span cells (upward 16 x)) l) ∙ span-count cells 16 vs c

@@ -1,4 +1,5 @@
 -- What the five searches of a part are asked, and what they find, by the numbers of the groups. Assumes nothing.
+-- Form 8: what the searches share are the laws `asking`, `numbers-sought` and `group-stepped`; in the laws of each search is left which tests, slots and sizes of the part are meant.
 use mathlib.Core.Path.{◌≡◌, sym, ap, ap₂, subst, ◌∙◌}
 use mathlib.Core.Bool.{Bool, true}
 use mathlib.Core.List.{List}
@@ -7,20 +8,18 @@ use native.Mathlib.Omega.{arith}
 use lib.Dec.{ltb}
 use lib.ListN.{length}
 use lib.IntN.{ℤ}
-use Rattle.points.specs.Points.{Point, span, number_of, placed, Tame, Distinct}
+use Rattle.points.specs.Points.{Point, span, number_of, placed, Tame, Shows, Distinct}
 use Rattle.points.specs.Searches.{levels_hold, under, Sought, Planned, SearchOf}
 use Rattle.points.proofs.PointNumbers.{Counts, number-apart, number_same, number-placed, beside_placed, tame-placed, sought-some, sought-same}
 use Rattle.points.proofs.SearchLevels.{planned-counts, planned-front, planned-rest, front-finds, search-finds, rest-finds}
 use Rattle.seek.specs.SeekPromises.{Left, SeekAsked, SeekAnswers}
+use Rattle.slot_carriers.specs.declared.groups.GroupSize.{GroupSize}
 use Rattle.plans.specs.declared.Part.{Part}
 use Rattle.nest_steps.specs.PartTests.{PartTests}
-use Rattle.nest_steps.specs.NestPromises.{Groups, Nest, NestAsked, Stepped, some_binding, AbstractAnswers, ConcreteAnswers, AbstractPreAnswers, OutputAnswers, AfterAnswers, MetAnswers}
+use Rattle.nest_steps.specs.NestPromises.{Groups, SizedGroup, Nest, NestAsked, Stepped, some_binding, AbstractAnswers, ConcreteAnswers, AbstractPreAnswers, OutputAnswers, AfterAnswers, MetAnswers}
 use Rattle.nest_steps.proofs.KeptGroups.{abstracts-concretes, concretes-outputs, concretes-primes, inputs-outputs, inputs-primes, outputs-primes, distinct-left, distinct-right}
 
 -- ---- for any search
-
-few-bindings : (n m : ℕ) → n ≤ m → m ≤ 2 ^ 18 → n ≤ 2 ^ 24
-few-bindings n m h g = omega arith
 
 -- the numbers at which it finds something
 found : {table plan cells : List ℕ} {u : ℕ} {ss : List ℕ} {P : Point → Bool} (S : SearchOf table plan cells u ss P) (δ : Point) → Tame cells δ → (n : ℕ) → n ≡ span cells ss
@@ -62,7 +61,7 @@ module _ {table plan cells : List ℕ} {p : Part} {G : Groups} {T : PartTests} (
 
   rest-plan : Planned table plan cells 3 p.outputs.variables G.primes N.steps.tests
   rest-plan =
-      subst (λ (j : ℕ). Planned table plan cells 3 j G.primes N.steps.tests) N.sized.vo (planned-rest G.outputs G.primes N.steps.planned)
+      subst (λ (j : ℕ). Planned table plan cells 3 j G.primes N.steps.tests) N.sized.outputs.many (planned-rest G.outputs G.primes N.steps.planned)
 
   output-distinct : Distinct G.outputs
   output-distinct = distinct-left G.outputs G.primes N.steps.distinct
@@ -77,7 +76,7 @@ module _ {table plan cells : List ℕ} {p : Part} {G : Groups} {T : PartTests} (
       by : (k : ℕ) → k < p.outputs.bindings → levels_hold N.steps.tests 0 (length G.outputs) (placed cells G.outputs δ k)
           ≡ T.front (number_of cells G.concretes δ) (number_of cells G.inputs δ) k
       by k h =
-          let l : k < span cells G.outputs = subst (λ (t : ℕ). k < t) N.sized.nq h in
+          let l : k < span cells G.outputs = subst (λ (t : ℕ). k < t) N.sized.outputs.counted h in
           let c : Counts cells G.outputs = planned-counts front-plan in
           let b = beside_placed cells G.outputs δ k in
           N.front_is _ (tame-placed cells G.outputs δ k τ c l)
@@ -89,11 +88,11 @@ module _ {table plan cells : List ℕ} {p : Part} {G : Groups} {T : PartTests} (
       → Sought (under cells N.steps.tests p.outputs.variables G.primes δ) from p.primes.bindings r
       → Sought (T.steps (number_of cells G.concretes δ) (number_of cells G.inputs δ) (number_of cells G.outputs δ)) from p.primes.bindings r
   after-sought {from} {r} δ τ e s =
-      subst (λ (t : ℕ). Sought g from t r) (sym N.sized.nk)
+      subst (λ (t : ℕ). Sought g from t r) (sym N.sized.primes.counted)
       (sought-same
       (rest-finds G.outputs G.primes N.steps δ τ (N.front_is δ τ ∙ e)
-      (subst (λ (t : ℕ). Sought (under cells N.steps.tests (length G.outputs) G.primes δ) from t r) N.sized.nk
-      (subst (λ (j : ℕ). Sought (under cells N.steps.tests j G.primes δ) from p.primes.bindings r) (sym N.sized.vo) s)))
+      (subst (λ (t : ℕ). Sought (under cells N.steps.tests (length G.outputs) G.primes δ) from t r) N.sized.primes.counted
+      (subst (λ (j : ℕ). Sought (under cells N.steps.tests j G.primes δ) from p.primes.bindings r) (sym N.sized.outputs.many) s)))
       by)
     where
       g : ℕ → Bool
@@ -114,96 +113,50 @@ module _ {table plan cells : List ℕ} {p : Part} {G : Groups} {T : PartTests} (
 -- ---- the five searches
 
 module _ {table plan cells : List ℕ} {p : Part} {before : List (List ℤ)} (q : NestAsked table plan cells p before) where
+  -- any of them, over one group
+  asking : {u j from most : ℕ} {ss : List ℕ} {tests : ℕ → List (Point → Bool)} {g : GroupSize} → Planned table plan cells u j ss tests → SizedGroup cells ss g most
+      → most ≤ 2 ^ 24 → from ≤ g.bindings → SeekAsked table plan cells u j g.variables g.bindings from before
+  asking {ss = ss} {tests = tests} l z m h = record {
+    slots = ss;
+    tests = tests;
+    point = q.point;
+    planned = l;
+    shows = q.shows;
+    many = z.many;
+    counted = z.counted;
+    few = native.Mathlib.Nat.le_trans z.few m;
+    inside = h;
+  }
+
   pub ask-states : {a : ℕ} → a ≤ p.abstracts.bindings → SeekAsked table plan cells 0 0 p.abstracts.variables p.abstracts.bindings a before
-  ask-states h =
-      let N = q.nest in
-      record {
-        slots = q.groups.abstracts;
-        tests = N.states.tests;
-        point = q.point;
-        planned = N.states.planned;
-        shows = q.shows;
-        many = N.sized.va;
-        counted = N.sized.na;
-        few = few-bindings _ 4096 N.sized.few_a.1 (omega arith);
-        inside = h;
-      }
+  ask-states h = asking q.nest.states.planned q.nest.sized.abstracts (omega arith) h
 
   pub ask-related : {c : ℕ} → c ≤ p.concretes.bindings → SeekAsked table plan cells 1 0 p.concretes.variables p.concretes.bindings c before
-  ask-related h =
-      let N = q.nest in
-      record {
-        slots = q.groups.concretes;
-        tests = N.related.tests;
-        point = q.point;
-        planned = N.related.planned;
-        shows = q.shows;
-        many = N.sized.vc;
-        counted = N.sized.nc;
-        few = few-bindings _ 4096 N.sized.few_c.1 (omega arith);
-        inside = h;
-      }
+  ask-related h = asking q.nest.related.planned q.nest.sized.concretes (omega arith) h
 
   pub ask-ready : SeekAsked table plan cells 2 0 p.readying.variables p.readying.bindings 0 before
-  ask-ready =
-      let N = q.nest in
-      record {
-        slots = q.groups.readying;
-        tests = N.ready.tests;
-        point = q.point;
-        planned = N.ready.planned;
-        shows = q.shows;
-        many = N.sized.vr;
-        counted = N.sized.nr;
-        few = few-bindings _ _ N.sized.few_r (omega arith);
-        inside = omega arith;
-      }
+  ask-ready = asking q.nest.ready.planned q.nest.sized.readying (omega arith) (omega arith)
 
   pub ask-outputs : {o : ℕ} → o ≤ p.outputs.bindings → SeekAsked table plan cells 3 0 p.outputs.variables p.outputs.bindings o before
-  ask-outputs h =
-      let N = q.nest in
-      record {
-        slots = q.groups.outputs;
-        tests = N.steps.tests;
-        point = q.point;
-        planned = planned-front q.groups.outputs q.groups.primes N.steps.planned;
-        shows = q.shows;
-        many = N.sized.vo;
-        counted = N.sized.nq;
-        few = few-bindings _ 64 N.sized.few_o.1 (omega arith);
-        inside = h;
-      }
+  ask-outputs h = asking (front-plan q.nest) q.nest.sized.outputs (omega arith) h
 
   pub ask_afters : {k : ℕ} → k ≤ p.primes.bindings → SeekAsked table plan cells 3 p.outputs.variables p.primes.variables p.primes.bindings k before
-  ask_afters h =
-      let N = q.nest in
-      record {
-        slots = q.groups.primes;
-        tests = N.steps.tests;
-        point = q.point;
-        planned = subst (λ (j : ℕ). Planned table plan cells 3 j q.groups.primes N.steps.tests) N.sized.vo
-            (planned-rest q.groups.outputs q.groups.primes N.steps.planned);
-        shows = q.shows;
-        many = N.sized.vk;
-        counted = N.sized.nk;
-        few = few-bindings _ 4096 N.sized.few_k.1 (omega arith);
-        inside = h;
-      }
+  ask_afters h = asking (rest-plan q.nest) q.nest.sized.primes (omega arith) h
 
   pub ask-met : SeekAsked table plan cells 4 0 p.meeting.variables p.meeting.bindings 0 before
-  ask-met =
-      let N = q.nest in
-      record {
-        slots = q.groups.meeting;
-        tests = N.met.tests;
-        point = q.point;
-        planned = N.met.planned;
-        shows = q.shows;
-        many = N.sized.vm;
-        counted = N.sized.nm;
-        few = few-bindings _ _ N.sized.few_m (omega arith);
-        inside = omega arith;
-      }
+  ask-met = asking q.nest.met.planned q.nest.sized.meeting (omega arith) (omega arith)
+
+-- what any of them answers, over a group whose slots are apart
+module _ {table plan cells : List ℕ} {before after : List (List ℤ)} {u j from r : ℕ} {g : GroupSize} (s : SeekAnswers table plan cells u j g.variables g.bindings from before after r)
+    {most : ℕ} {ss : List ℕ} {tests : ℕ → List (Point → Bool)} {δ : Point} (l : Planned table plan cells u j ss tests) (z : SizedGroup cells ss g most) (w : Shows cells δ before) where
+  numbers-sought : Sought (under cells tests j ss δ) from g.bindings r
+  numbers-sought = s.sought ss tests δ l w z.many
+
+  group-left : Left cells ss δ g.bindings r after
+  group-left = s.left ss tests δ l w z.many
+
+  group-stepped : Distinct ss → Stepped cells ss δ g.bindings r after
+  group-stepped d = stepped d (planned-counts l) z.counted group-left
 
 module _ {table plan cells : List ℕ} {p : Part} {before after : List (List ℤ)} {from r : ℕ} where
   pub states-found : SeekAnswers table plan cells 0 0 p.abstracts.variables p.abstracts.bindings from before after r → AbstractAnswers table plan cells p from before after r
@@ -211,11 +164,10 @@ module _ {table plan cells : List ℕ} {p : Part} {before after : List (List ℤ
       record {
         sought = λ G T δ N w.
             let c : Counts cells G.abstracts = planned-counts N.states.planned in
-            found N.states δ w.tame p.abstracts.bindings N.sized.na T.state
+            found N.states δ w.tame p.abstracts.bindings N.sized.abstracts.counted T.state
             (λ k h. ap T.state (number-placed cells G.abstracts δ k N.states.distinct c h))
-            (s.sought G.abstracts N.states.tests δ N.states.planned w N.sized.va);
-        left = λ G T δ N w. stepped N.states.distinct (planned-counts N.states.planned) N.sized.na
-            (s.left G.abstracts N.states.tests δ N.states.planned w N.sized.va);
+            (numbers-sought s N.states.planned N.sized.abstracts w);
+        left = λ G T δ N w. group-stepped s N.states.planned N.sized.abstracts w N.states.distinct;
       }
 
   pub related-found : SeekAnswers table plan cells 1 0 p.concretes.variables p.concretes.bindings from before after r → ConcreteAnswers table plan cells p from before after r
@@ -223,43 +175,40 @@ module _ {table plan cells : List ℕ} {p : Part} {before after : List (List ℤ
       record {
         sought = λ G T δ N w.
             let c : Counts cells G.concretes = planned-counts N.related.planned in
-            found N.related δ w.tame p.concretes.bindings N.sized.nc (T.related (number_of cells G.abstracts δ))
+            found N.related δ w.tame p.concretes.bindings N.sized.concretes.counted (T.related (number_of cells G.abstracts δ))
             (λ k h. ap₂ T.related (number-apart cells G.abstracts G.concretes δ _ (abstracts-concretes N) (beside_placed cells G.concretes δ k))
             (number-placed cells G.concretes δ k N.related.distinct c h))
-            (s.sought G.concretes N.related.tests δ N.related.planned w N.sized.vc);
-        left = λ G T δ N w. stepped N.related.distinct (planned-counts N.related.planned) N.sized.nc
-            (s.left G.concretes N.related.tests δ N.related.planned w N.sized.vc);
+            (numbers-sought s N.related.planned N.sized.concretes w);
+        left = λ G T δ N w. group-stepped s N.related.planned N.sized.concretes w N.related.distinct;
       }
 
   pub outputs-found : SeekAnswers table plan cells 3 0 p.outputs.variables p.outputs.bindings from before after r → OutputAnswers table plan cells p from before after r
   outputs-found s =
       record {
-        sought = λ G T δ N w. output-sought N δ w.tame (s.sought G.outputs N.steps.tests δ (front-plan N) w N.sized.vo);
-        left = λ G T δ N w. stepped (output-distinct N) (planned-counts (front-plan N)) N.sized.nq
-            (s.left G.outputs N.steps.tests δ (front-plan N) w N.sized.vo);
+        sought = λ G T δ N w. output-sought N δ w.tame (numbers-sought s (front-plan N) N.sized.outputs w);
+        left = λ G T δ N w. group-stepped s (front-plan N) N.sized.outputs w (output-distinct N);
       }
 
   pub afters-found : SeekAnswers table plan cells 3 p.outputs.variables p.primes.variables p.primes.bindings from before after r → AfterAnswers table plan cells p from before after r
   afters-found s =
       record {
-        sought = λ G T δ N w e. after-sought N δ w.tame e (s.sought G.primes N.steps.tests δ (rest-plan N) w N.sized.vk);
-        left = λ G T δ N w. stepped (prime-distinct N) (planned-counts (rest-plan N)) N.sized.nk
-            (s.left G.primes N.steps.tests δ (rest-plan N) w N.sized.vk);
+        sought = λ G T δ N w e. after-sought N δ w.tame e (numbers-sought s (rest-plan N) N.sized.primes w);
+        left = λ G T δ N w. group-stepped s (rest-plan N) N.sized.primes w (prime-distinct N);
       }
 
 module _ {table plan cells : List ℕ} {p : Part} {before after : List (List ℤ)} {r : ℕ} where
   pub ready-found : SeekAnswers table plan cells 2 0 p.readying.variables p.readying.bindings 0 before after r → AbstractPreAnswers table plan cells p before after (ltb r p.readying.bindings)
   ready-found s =
       record {
-        is = λ G T δ N w. some-found N.ready δ w.tame p.readying.bindings N.sized.nr (s.sought G.readying N.ready.tests δ N.ready.planned w N.sized.vr)
+        is = λ G T δ N w. some-found N.ready δ w.tame p.readying.bindings N.sized.readying.counted (numbers-sought s N.ready.planned N.sized.readying w)
             ∙ N.ready_is δ w.tame;
-        left = λ G T δ N w. only-left (s.left G.readying N.ready.tests δ N.ready.planned w N.sized.vr);
+        left = λ G T δ N w. only-left (group-left s N.ready.planned N.sized.readying w);
       }
 
   pub met-found : SeekAnswers table plan cells 4 0 p.meeting.variables p.meeting.bindings 0 before after r → MetAnswers table plan cells p before after (ltb r p.meeting.bindings)
   met-found s =
       record {
-        is = λ G T δ N w. some-found N.met δ w.tame p.meeting.bindings N.sized.nm (s.sought G.meeting N.met.tests δ N.met.planned w N.sized.vm)
+        is = λ G T δ N w. some-found N.met δ w.tame p.meeting.bindings N.sized.meeting.counted (numbers-sought s N.met.planned N.sized.meeting w)
             ∙ N.met_is δ w.tame;
-        left = λ G T δ N w. only-left (s.left G.meeting N.met.tests δ N.met.planned w N.sized.vm);
+        left = λ G T δ N w. only-left (group-left s N.met.planned N.sized.meeting w);
       }

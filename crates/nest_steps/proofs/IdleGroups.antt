@@ -11,6 +11,7 @@ use Rattle.points.specs.Points.{Point, moved, span, placed}
 use Rattle.points.specs.Searches.{mark_in}
 use Rattle.points.proofs.PointNumbers.{Counts, tame-placed}
 use Rattle.points.proofs.SearchLevels.{planned-counts}
+use Rattle.slot_carriers.specs.declared.groups.GroupSize.{GroupSize}
 use Rattle.plans.specs.declared.Part.{Part}
 use Rattle.idle_variables.specs.KeyedNumbers.{Idle, Ignores}
 use Rattle.idle_variables.specs.IdlePromises.{SearchesIdle, PlanAsked, MaskSays}
@@ -21,7 +22,7 @@ use Rattle.idle_variables.proofs.IdleSearches.{idle_by, search_idle}
 use Rattle.idle_variables.proofs.IdleMasks.{mask_ignores}
 use Rattle.nest_steps.specs.declared.blocks.Masks.{Masks}
 use Rattle.nest_steps.specs.PartTests.{PartTests}
-use Rattle.nest_steps.specs.NestPromises.{Groups, Nest, some_binding}
+use Rattle.nest_steps.specs.NestPromises.{Groups, SizedGroup, Nest, some_binding}
 use Rattle.nest_steps.specs.IdleGroups.{related_of, ready_of, steps_of, met_of}
 use Rattle.nest_steps.specs.OpenBlocks.{MasksAnswers, pair_group, concrete_group, whole_group}
 use Rattle.nest_steps.proofs.KeptGroups.{abstracts-readying, abstracts-meeting, concretes-meeting}
@@ -85,10 +86,10 @@ module _ {table plan cells : List ℕ} {p : Part} {G : Groups} {T : PartTests} (
   -- ---- what is asked
 
   pub few-abstracts : p.abstracts.variables ≤ 11
-  few-abstracts = omega (arith, N.sized.va, N.states.planned.few)
+  few-abstracts = omega (arith, N.sized.abstracts.many, N.states.planned.few)
 
   pub few-concretes : p.concretes.variables ≤ 11
-  few-concretes = omega (arith, N.sized.vc, N.related.planned.few)
+  few-concretes = omega (arith, N.sized.concretes.many, N.related.planned.few)
 
   pub plan-asked : PlanAsked plan
   plan-asked = record { marks = go }
@@ -101,29 +102,18 @@ module _ {table plan cells : List ℕ} {p : Part} {G : Groups} {T : PartTests} (
       go (suc (suc (suc (suc zero)))) l h g = N.met.planned.marks l g
       go (suc (suc (suc (suc (suc u))))) l h g = absurd (omega arith)
 
+  keys-asked : {s idle : ℕ} {ss : List ℕ} {g : GroupSize} → s ≤ 8 → g.variables ≤ 11 → SizedGroup cells ss g 4096 → ss ≡ upward s g.variables → Counts cells ss
+      → KeyAsked cells (record { first = s; size = g; idle = idle })
+  keys-asked l h z e c = record { low = omega arith; count = z.counted ∙ ap (span cells) e; some = subst (Counts cells) e c; few = z.few }
+
   pub pair-asked : (m : Masks) → KeyAsked cells (pair_group p m)
-  pair-asked m = record {
-    low = omega (arith, few-abstracts);
-    count = N.sized.na ∙ ap (span cells) N.sized.abstracts_are;
-    some = subst (Counts cells) N.sized.abstracts_are (planned-counts N.states.planned);
-    few = N.sized.few_a.1;
-  }
+  pair-asked m = keys-asked (omega arith) few-abstracts N.sized.abstracts N.sized.abstracts_are (planned-counts N.states.planned)
 
   pub whole-asked : (m : Masks) → KeyAsked cells (whole_group p m)
-  whole-asked m = record {
-    low = omega (arith, few-abstracts);
-    count = N.sized.na ∙ ap (span cells) N.sized.abstracts_are;
-    some = subst (Counts cells) N.sized.abstracts_are (planned-counts N.states.planned);
-    few = N.sized.few_a.1;
-  }
+  whole-asked m = keys-asked (omega arith) few-abstracts N.sized.abstracts N.sized.abstracts_are (planned-counts N.states.planned)
 
   pub concrete-asked : (m : Masks) → KeyAsked cells (concrete_group p m)
-  concrete-asked m = record {
-    low = omega (arith, few-concretes);
-    count = N.sized.nc ∙ ap (span cells) N.sized.concretes_are;
-    some = subst (Counts cells) N.sized.concretes_are (planned-counts N.related.planned);
-    few = N.sized.few_c.1;
-  }
+  concrete-asked m = keys-asked (omega arith) few-concretes N.sized.concretes N.sized.concretes_are (planned-counts N.related.planned)
 
 -- the masks from the searches for what is inside a block on
 pub masks-found : {table plan : List ℕ} {p : Part} {x y z : ℕ} → MaskSays table plan 2 0 p.abstracts.variables x → MaskSays table plan 1 0 p.abstracts.variables y → MaskSays table plan 3 8 p.concretes.variables z

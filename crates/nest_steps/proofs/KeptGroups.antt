@@ -134,10 +134,10 @@ module _ {table plan cells : List ℕ} {p : Part} {G : Groups} {T : PartTests} (
       few_k = planned-counts (planned-rest G.outputs G.primes N.steps.planned)
 
       o_low : o < span cells G.outputs
-      o_low = subst (λ (n : ℕ). o < n) N.sized.nq ho
+      o_low = subst (λ (n : ℕ). o < n) N.sized.outputs.counted ho
 
       k_low : k < span cells G.primes
-      k_low = subst (λ (n : ℕ). k < n) N.sized.nk hk
+      k_low = subst (λ (n : ℕ). k < n) N.sized.primes.counted hk
 
       tame : Tame cells (placed cells G.primes (placed cells G.outputs δ o) k)
       tame = tame-placed cells G.primes _ k (tame-placed cells G.outputs δ o τ few_o o_low) few_k k_low

@@ -1,4 +1,5 @@
 -- Keyed tests: two bindings of a group with the same key have the same inner tests, by the numbers of the groups. Assumes nothing.
+-- Form 8: the five laws `put-` say which of the numbers of `AtNumbers` is the one put, and of which of its ten facts `Nest` each of the four others takes one.
 use mathlib.Core.Path.{◌≡◌, refl, sym, ap₂, subst, ◌∙◌}
 use mathlib.Core.Bool.{Bool}
 use mathlib.Core.List.{List}
@@ -48,32 +49,37 @@ module _ {cells ss : List ℕ} {n : ℕ} (w : Placing cells ss n) (δ : Point) (
   placed-apart : (us : List ℕ) → Apart us ss → number_of cells us (placed cells ss δ x) ≡ number_of cells us δ
   placed-apart us a = number-apart cells us ss δ _ a (beside_placed cells ss δ x)
 
+-- the same test at two of its bindings with one key
+by-key : {cells ss : List ℕ} {n : ℕ} (w : Placing cells ss n) (P : Point → Bool) (idle x y : ℕ) → x < n → y < n → Ignores cells P idle ss → keyed cells ss idle y ≡ keyed cells ss idle x
+    → (ε : Point) → Tame cells ε → P (placed cells ss ε y) ≡ P (placed cells ss ε x)
+by-key {cells} {ss} w P idle x y hx hy f e ε υ = same_key cells P ss idle y x ε υ w.distinct w.counts (low w ε υ y hy) (low w ε υ x hx) f e
+
 module _ {table plan cells : List ℕ} {p : Part} {G : Groups} {T : PartTests} (N : Nest table plan cells p G T) where
   place-a : Placing cells G.abstracts p.abstracts.bindings
-  place-a = record { distinct = N.states.distinct; counts = planned-counts N.states.planned; many = N.sized.na }
+  place-a = record { distinct = N.states.distinct; counts = planned-counts N.states.planned; many = N.sized.abstracts.counted }
 
   place-c : Placing cells G.concretes p.concretes.bindings
-  place-c = record { distinct = N.related.distinct; counts = planned-counts N.related.planned; many = N.sized.nc }
+  place-c = record { distinct = N.related.distinct; counts = planned-counts N.related.planned; many = N.sized.concretes.counted }
 
   pub place-i : Placing cells G.inputs p.inputs.bindings
   place-i = record {
     distinct = subst Distinct (sym N.sized.inputs_are) (distinct-upward 16 p.inputs.variables);
     counts = subst (Counts cells) (sym N.sized.inputs_are) (upward-counts cells 16 p.inputs.variables N.sized.grouped);
-    many = N.sized.ni;
+    many = N.sized.inputs.counted;
   }
 
   place-o : Placing cells G.outputs p.outputs.bindings
   place-o = record {
     distinct = distinct-left G.outputs G.primes N.steps.distinct;
     counts = planned-counts (planned-front G.outputs G.primes N.steps.planned);
-    many = N.sized.nq;
+    many = N.sized.outputs.counted;
   }
 
   place-k : Placing cells G.primes p.primes.bindings
   place-k = record {
     distinct = distinct-right G.outputs G.primes N.steps.distinct;
     counts = planned-counts (planned-rest G.outputs G.primes N.steps.planned);
-    many = N.sized.nk;
+    many = N.sized.primes.counted;
   }
 
   -- another abstract state, another concrete state
@@ -161,37 +167,26 @@ module _ {table plan cells : List ℕ} {p : Part} {G : Groups} {T : PartTests} (
         by : (a c i o k a' c' i' o' k' : ℕ) → a ≡ a' → c ≡ c' → i ≡ i' → o ≡ o' → k ≡ k' → T.met a c i o k ≡ T.met a' c' i' o' k'
         by a c i o k a' c' i' o' k' h₁ h₂ h₃ h₄ h₅ = cc
 
-    -- the same test at two abstract states with one key, and at two concrete states
-    by-abstract : (P : Point → Bool) (idle a b : ℕ) → a < p.abstracts.bindings → b < p.abstracts.bindings → Ignores cells P idle G.abstracts → keyed cells G.abstracts idle b ≡ keyed cells G.abstracts idle a
-        → (ε : Point) → Tame cells ε → P (placed cells G.abstracts ε b) ≡ P (placed cells G.abstracts ε a)
-    by-abstract P idle a b ha hb f e ε υ =
-        same_key cells P G.abstracts idle b a ε υ place-a.distinct place-a.counts (low place-a ε υ b hb) (low place-a ε υ a ha) f e
-
-    by-concrete : (P : Point → Bool) (idle c d : ℕ) → c < p.concretes.bindings → d < p.concretes.bindings → Ignores cells P idle G.concretes → keyed cells G.concretes idle d ≡ keyed cells G.concretes idle c
-        → (ε : Point) → Tame cells ε → P (placed cells G.concretes ε d) ≡ P (placed cells G.concretes ε c)
-    by-concrete P idle c d hc hd f e ε υ =
-        same_key cells P G.concretes idle d c ε υ place-c.distinct place-c.counts (low place-c ε υ d hd) (low place-c ε υ c hc) f e
-
     module _ (idle a b : ℕ) (ha : a < p.abstracts.bindings) (hb : b < p.abstracts.bindings) (e : keyed cells G.abstracts idle b ≡ keyed cells G.abstracts idle a) where
       ready-same : Ignores cells (ready_of cells G T) idle G.abstracts → (i : ℕ) → i < p.inputs.bindings → T.ready b i ≡ T.ready a i
       ready-same f i hi =
-          let s = somewhere 0 i 0 0 N.sized.few_c.0 hi N.sized.few_o.0 N.sized.few_k.0 in
+          let s = somewhere 0 i 0 0 N.sized.some_c hi N.sized.some_o N.sized.some_k in
           sym (ready_at (put-abstract b hb s.point s.at))
-          ∙ by-abstract (ready_of cells G T) idle a b ha hb f e s.point s.at.tame
+          ∙ by-key place-a (ready_of cells G T) idle a b ha hb f e s.point s.at.tame
           ∙ ready_at (put-abstract a ha s.point s.at)
 
       related_same : Ignores cells (related_of cells G T) idle G.abstracts → (c : ℕ) → c < p.concretes.bindings → T.related b c ≡ T.related a c
       related_same f c hc =
-          let s = somewhere c 0 0 0 hc N.sized.few_i.0 N.sized.few_o.0 N.sized.few_k.0 in
+          let s = somewhere c 0 0 0 hc N.sized.some_i N.sized.some_o N.sized.some_k in
           sym (related-at (put-abstract b hb s.point s.at))
-          ∙ by-abstract (related_of cells G T) idle a b ha hb f e s.point s.at.tame
+          ∙ by-key place-a (related_of cells G T) idle a b ha hb f e s.point s.at.tame
           ∙ related-at (put-abstract a ha s.point s.at)
 
       met-same : Ignores cells (met_of cells G T) idle G.abstracts → (c i o k : ℕ) → c < p.concretes.bindings → i < p.inputs.bindings → o < p.outputs.bindings → k < p.primes.bindings → T.met b c i o k ≡ T.met a c i o k
       met-same f c i o k hc hi ho hk =
           let s = somewhere c i o k hc hi ho hk in
           sym (met_at (put-abstract b hb s.point s.at))
-          ∙ by-abstract (met_of cells G T) idle a b ha hb f e s.point s.at.tame
+          ∙ by-key place-a (met_of cells G T) idle a b ha hb f e s.point s.at.tame
           ∙ met_at (put-abstract a ha s.point s.at)
 
     module _ (idle c d : ℕ) (hc : c < p.concretes.bindings) (hd : d < p.concretes.bindings) (e : keyed cells G.concretes idle d ≡ keyed cells G.concretes idle c) where
@@ -199,7 +194,7 @@ module _ {table plan cells : List ℕ} {p : Part} {G : Groups} {T : PartTests} (
       steps-same f i o k hi ho hk =
           let s = somewhere c i o k hc hi ho hk in
           sym (steps-at (put-concrete d hd s.point s.at))
-          ∙ by-concrete (steps_of cells G T) idle c d hc hd f e s.point s.at.tame
+          ∙ by-key place-c (steps_of cells G T) idle c d hc hd f e s.point s.at.tame
           ∙ steps-at (put-concrete c hc s.point s.at)
 
       met_concrete : Ignores cells (met_of cells G T) idle G.concretes → (a i o k : ℕ) → a < p.abstracts.bindings → i < p.inputs.bindings → o < p.outputs.bindings → k < p.primes.bindings → T.met a d i o k ≡ T.met a c i o k
@@ -207,7 +202,7 @@ module _ {table plan cells : List ℕ} {p : Part} {G : Groups} {T : PartTests} (
           let s = somewhere c i o k hc hi ho hk in
           let v = put-abstract a ha s.point s.at in
           sym (met_at (put-concrete d hd _ v))
-          ∙ by-concrete (met_of cells G T) idle c d hc hd f e _ v.tame
+          ∙ by-key place-c (met_of cells G T) idle c d hc hd f e _ v.tame
           ∙ met_at (put-concrete c hc _ v)
 
     pub pair-keys : {abstractly concretely : ℕ} → IdlePairs cells G T abstractly concretely

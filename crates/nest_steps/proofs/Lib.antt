@@ -2,7 +2,6 @@ pub mod PassingBlocks
 pub mod KeptGroups
 pub mod FoundNumbers
 pub mod RememberedConclusions
-pub mod KeyProducts
 pub mod BoundInputs
 pub mod NextBits
 pub mod ReadyInputs

@@ -1,12 +1,14 @@
 -- Open blocks: a search goes on while what it finds is marked, and what it goes over passes; nothing is marked at first. Assumes nothing.
+-- Form 8: the laws of concrete and of abstract states are over records of specs/ that differ: only a concrete block passes under the mark and at the abstract state of a point.
 use mathlib.Core.Path.{◌≡◌, refl, sym, subst, ◌∙◌}
 use mathlib.Core.Bool.{Bool, true, false}
 use mathlib.Core.List.{List}
-use Prim.Native.Nat.{ℕ, zero, suc, ◌+◌, ◌<◌, ◌≤◌}
+use Prim.Native.Nat.{ℕ, ◌+◌, ◌<◌, ◌≤◌}
 use native.Mathlib.Decide.{dec_lt}
 use native.Mathlib.Omega.{arith}
 use lib.ListN.{get_or, replicate, length-replicate}
 use lib.IntN.{ℤ}
+use Rattle.memo.proofs.Memos.{all-zero}
 use Rattle.points.specs.Points.{Point, number_of, Tame}
 use Rattle.points.specs.Searches.{Sought}
 use Rattle.points.proofs.PointNumbers.{number-apart, number-low, beside-twice}
@@ -58,7 +60,7 @@ pub record AbstractsPassed (table plan cells : List ℕ) (p : Part) (a : ℕ) (b
 
 module _ {table plan cells : List ℕ} {p : Part} where
   abstract-low : {G : Groups} {T : PartTests} → Nest table plan cells p G T → (δ : Point) → Tame cells δ → number_of cells G.abstracts δ < p.abstracts.bindings
-  abstract-low {G} N δ τ = subst (λ (n : ℕ). number_of cells G.abstracts δ < n) (sym N.sized.na) (number-low cells G.abstracts δ τ (planned-counts N.states.planned))
+  abstract-low {G} N δ τ = subst (λ (n : ℕ). number_of cells G.abstracts δ < n) (sym N.sized.abstracts.counted) (number-low cells G.abstracts δ τ (planned-counts N.states.planned))
 
   -- ---- concrete states
 
@@ -190,11 +192,6 @@ module _ {table plan cells : List ℕ} {p : Part} where
           }
 
 -- ---- nothing is marked at first
-
-all-zero : (n i : ℕ) → get_or {A = ℕ} (replicate n 0) i 0 ≡ 0
-all-zero zero i = refl
-all-zero (suc n) zero = refl
-all-zero (suc n) (suc i) = all-zero n i
 
 module _ {table plan cells : List ℕ} {p : Part} {m : Masks} (n : ℕ) (e : n ≡ 4096) where
   pub no-pair-seen : PairsSeen table plan cells p m (replicate n 0)

@@ -28,7 +28,7 @@ bound-inputs {cells = cells} {p} {before} {i} {σ} h b o G T δ N w =
     subst (λ (ss : List ℕ). Stepped cells ss δ p.inputs.bindings i (set before 0 σ)) (sym N.sized.inputs_are) step
   where
     low : i < span cells (upward 16 p.inputs.variables)
-    low = subst (λ (n : ℕ). i < n) (N.sized.ni ∙ ap (span cells) N.sized.inputs_are) h
+    low = subst (λ (n : ℕ). i < n) (N.sized.inputs.counted ∙ ap (span cells) N.sized.inputs_are) h
 
     step : Stepped cells (upward 16 p.inputs.variables) δ p.inputs.bindings i (set before 0 σ)
     step =
@@ -110,7 +110,7 @@ module _ {table plan cells : List ℕ} {p : Part} where
   -- the number stays small
   pub ready-small : {before slots : List (List ℤ)} {s i : ℕ} → Readying table plan cells p before slots s i → 0 < i → 2 * s + 1 < 2 ^ 64
   ready-small r h =
-      let q = r.asked in bits-fit (r.each q.groups q.tests q.point q.nest q.shows).bits (omega (arith, r.high, q.nest.sized.few_i.1))
+      let q = r.asked in bits-fit (r.each q.groups q.tests q.point q.nest q.shows).bits (omega (arith, r.high, q.nest.sized.inputs.few))
 
   pub ready-done : {before slots : List (List ℤ)} {s i : ℕ} → Readying table plan cells p before slots s i → i ≤ 0 → ReadyAnswers table plan cells p before slots s
   ready-done {before} {slots} {s} {i} r h =

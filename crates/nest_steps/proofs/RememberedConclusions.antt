@@ -2,17 +2,20 @@
 use mathlib.Core.Path.{◌≡◌, refl, sym, ap, subst, ◌∙◌}
 use mathlib.Core.Bool.{Bool, true, false}
 use mathlib.Core.List.{List}
-use Prim.Native.Nat.{ℕ, zero, suc, ◌+◌, ◌*◌, ◌/◌, ◌%◌, ◌<◌}
+use Prim.Native.Nat.{ℕ, ◌+◌, ◌*◌, ◌/◌, ◌%◌, ◌<◌}
 use native.Mathlib.Decide.{ℕ_discrete}
 use native.Mathlib.Omega.{arith}
 use lib.Arith.{digits_div, digits_mod}
 use lib.ListN.{get_or, length, set, replicate, length-set, length-replicate}
 use lib.Seq.{get_or-set_same, get_or-set_other}
 use lib.IntN.{ℤ}
+use Rattle.memo.proofs.Memos.{all-zero}
 use Rattle.plans.specs.declared.Part.{Part}
+use Rattle.plans.specs.declared.Conclusion.{Conclusion}
+use Rattle.plans.specs.declared.Conclusion.TheVariants.{OfState, OfStep}
 use Rattle.nest_steps.specs.declared.known.Numbers.{Numbers}
 use Rattle.nest_steps.specs.PartTests.{PartTests}
-use Rattle.nest_steps.specs.NestPromises.{Groups, Nest, MetAnswers}
+use Rattle.nest_steps.specs.NestPromises.{Groups, DependsOn, Nest, MetAnswers}
 use Rattle.nest_steps.specs.Remembering.{key_at, mark_at, key_of, mark_of, met_at, Inside, Known, Remembered, Noted, no_place, noted, BindingAsked, AgainAnswers}
 
 -- ---- keys and marks
@@ -24,49 +27,49 @@ same-high n x y e f h g q = sym (digits_div x h) ∙ ap (λ (t : ℕ). t / n) q 
 same_low : (n x y e f : ℕ) → e < n → f < n → x * n + e ≡ y * n + f → e ≡ f
 same_low n x y e f h g q = sym (digits_mod x h) ∙ ap (λ (t : ℕ). t % n) q ∙ digits_mod y g
 
-module _ (p : Part) (b : Numbers) {t : Bool} (e : p.primed ≡ t) where
+module _ (p : Part) (b : Numbers) {t : Conclusion} (e : p.conclusion ≡ t) where
   pub key-by : key_of p b ≡ key_at t p b
-  key-by = ap (λ (u : Bool). key_at u p b) e
+  key-by = ap (λ (u : Conclusion). key_at u p b) e
 
   pub mark-by : mark_of p b ≡ mark_at t b
-  mark-by = ap (λ (u : Bool). mark_at u b) e
+  mark-by = ap (λ (u : Conclusion). mark_at u b) e
 
 -- no mark is 0
-mark-some : (t : Bool) (b : Numbers) → 0 < mark_at t b
+mark-some : (t : Conclusion) (b : Numbers) → 0 < mark_at t b
 unfolding mark_at
-mark-some true b = omega arith
-mark-some false b = omega arith
+mark-some OfState b = omega arith
+mark-some OfStep b = omega arith
 
 met_by : (T : PartTests) (a c i o k a' i' o' k' : ℕ) → a ≡ a' → i ≡ i' → o ≡ o' → k ≡ k' → T.met a c i o k ≡ T.met a' c i' o' k'
 met_by T a c i o k a' i' o' k' h₁ h₂ h₃ h₄ = cc
 
 module _ {table plan cells : List ℕ} {p : Part} {G : Groups} {T : PartTests} (N : Nest table plan cells p G T) where
   -- the same key and the same mark: the same conclusion
-  alike-primed : (b d : Numbers) → Inside p b → Inside p d → p.primed ≡ true → key_at true p b ≡ key_at true p d → mark_at true b ≡ mark_at true d → met_at T b ≡ met_at T d
-  unfolding key_at mark_at
-  alike-primed b d h g q e m =
+  alike-step : (b d : Numbers) → Inside p b → Inside p d → DependsOn OfStep T → key_at OfStep p b ≡ key_at OfStep p d → mark_at OfStep b ≡ mark_at OfStep d → met_at T b ≡ met_at T d
+  unfolding key_at mark_at DependsOn
+  alike-step b d h g q e m =
       let a_is : b.a ≡ d.a = omega (arith, m) in
       let front : b.i * p.outputs.bindings + b.o ≡ d.i * p.outputs.bindings + d.o = same-high p.primes.bindings _ _ b.k d.k h.low_k.0 g.low_k.0 e in
       met_by T b.a b.c b.i b.o b.k d.a d.i d.o d.k a_is
       (same-high p.outputs.bindings b.i d.i b.o d.o h.low_o.0 g.low_o.0 front)
       (same_low p.outputs.bindings b.i d.i b.o d.o h.low_o.0 g.low_o.0 front)
       (same_low p.primes.bindings (b.i * p.outputs.bindings + b.o) (d.i * p.outputs.bindings + d.o) b.k d.k h.low_k.0 g.low_k.0 e)
-      ∙ N.met_primed q d.a b.c d.c d.i d.o d.k
+      ∙ q d.a b.c d.c d.i d.o d.k
 
-  alike-plain : (b d : Numbers) → Inside p b → Inside p d → p.primed ≡ false → key_at false p b ≡ key_at false p d → met_at T b ≡ met_at T d
-  unfolding key_at
-  alike-plain b d h g q e =
+  alike-state : (b d : Numbers) → Inside p b → Inside p d → DependsOn OfState T → key_at OfState p b ≡ key_at OfState p d → met_at T b ≡ met_at T d
+  unfolding key_at DependsOn
+  alike-state b d h g q e =
       let key : b.c * p.inputs.bindings + b.i ≡ d.c * p.inputs.bindings + d.i = omega (arith, e) in
       ap (λ (t : ℕ). T.met b.a t b.i b.o b.k) (same-high p.inputs.bindings b.c d.c b.i d.i h.low_i.0 g.low_i.0 key)
       ∙ ap (λ (t : ℕ). T.met b.a d.c t b.o b.k) (same_low p.inputs.bindings b.c d.c b.i d.i h.low_i.0 g.low_i.0 key)
-      ∙ N.met_plain q b.a d.a d.c d.i b.o d.o b.k d.k
+      ∙ q b.a d.a d.c d.i b.o d.o b.k d.k
 
   alike : (b d : Numbers) → Inside p b → Inside p d → key_of p b ≡ key_of p d → mark_of p b ≡ mark_of p d → met_at T b ≡ met_at T d
-  alike b d h g e m = go p.primed refl
+  alike b d h g e m = go p.conclusion N.depends e m
     where
-      go : (t : Bool) → p.primed ≡ t → met_at T b ≡ met_at T d
-      go true q = alike-primed b d h g q (sym (key-by p b q) ∙ e ∙ key-by p d q) (sym (mark-by p b q) ∙ m ∙ mark-by p d q)
-      go false q = alike-plain b d h g q (sym (key-by p b q) ∙ e ∙ key-by p d q)
+      go : (t : Conclusion) → DependsOn t T → key_at t p b ≡ key_at t p d → mark_at t b ≡ mark_at t d → met_at T b ≡ met_at T d
+      go OfState q k l = alike-state b d h g q k
+      go OfStep q k l = alike-step b d h g q k l
 
   -- one more
   known_more : (known : List ℕ) (b : Numbers) → Inside p b → Known p T known → key_of p b < length known → met_at T b ≡ true
@@ -81,16 +84,11 @@ module _ {table plan cells : List ℕ} {p : Part} {G : Groups} {T : PartTests} (
       go d g e (no q) = w.met d g (sym (get_or-set_other known (key_of p b) (key_of p d) (mark_of p b) 0 q) ∙ e)
 
 -- nothing is known at first
-all-zero : (n i : ℕ) → get_or {A = ℕ} (replicate n 0) i 0 ≡ 0
-all-zero zero i = refl
-all-zero (suc n) zero = refl
-all-zero (suc n) (suc i) = all-zero n i
-
 pub none-known : {table plan cells : List ℕ} {p : Part} (n : ℕ) → n ≡ 65536 → Remembered table plan cells p (replicate n 0)
 none-known {p = p} n e = record { long = length-replicate n 0 ∙ e; each = λ G T N. record { met = λ b h q. absurd (none b q) } }
   where
     none : (b : Numbers) → get_or {A = ℕ} (replicate n 0) (key_of p b) 0 ≡ mark_of p b → ⊥
-    none b q = omega (arith, mark-some p.primed b, all-zero n (key_of p b))
+    none b q = omega (arith, mark-some p.conclusion b, all-zero n (key_of p b))
 
 module _ {table plan cells : List ℕ} {p : Part} {b : Numbers} {before : List (List ℤ)} {known : List ℕ} (q : BindingAsked table plan cells p b before)
     (w : Remembered table plan cells p known) where

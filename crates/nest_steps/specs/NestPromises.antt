@@ -1,11 +1,14 @@
 -- What the steps of the nest ask and promise. Nothing here need be believed.
-use Rattle.std.specs.Prelude.{◌≡◌, Bool, true, false, List, ◌++◌, ℕ, ◌<◌, ◌≤◌, ◌^◌, length, ℤ}
+use Rattle.std.specs.Prelude.{◌≡◌, Bool, true, List, ◌++◌, ℕ, ◌<◌, ◌≤◌, ◌^◌, length, ℤ}
 use Rattle.lexical.specs.Lists.{any, upward}
 use Rattle.sets.specs.Sets.{has}
 use Rattle.slot_carriers.specs.CellGroups.{Grouped}
 use Rattle.points.specs.Points.{Point, span, number_of, placed, Tame, Shows, Beside, Apart}
 use Rattle.points.specs.Searches.{levels_hold, Sought, SearchOf}
+use Rattle.slot_carriers.specs.declared.groups.GroupSize.{GroupSize}
 use Rattle.plans.specs.declared.Part.{Part}
+use Rattle.plans.specs.declared.Conclusion.{Conclusion}
+use Rattle.plans.specs.declared.Conclusion.TheVariants.{OfState, OfStep}
 use Rattle.nest_steps.specs.PartTests.{PartTests}
 
 -- the slots of the groups of a part, and of the two searches for a step of the abstract operation and for what must be there
@@ -22,34 +25,36 @@ pub record Groups : Type 0 where
 unfoldable pub some_binding : (cells : List ℕ) → List ℕ → (Point → Bool) → Point → Bool
 some_binding cells ss P δ = any (λ (k : ℕ). P (placed cells ss δ k)) (upward 0 (span cells ss))
 
--- how many variables and bindings the groups have
+-- how many variables and bindings a group has
+pub record SizedGroup (cells ss : List ℕ) (g : GroupSize) (most : ℕ) : Type 0 where
+  pub many : length ss ≡ g.variables
+  pub counted : g.bindings ≡ span cells ss
+  pub few : g.bindings ≤ most
+
+-- those of a part
 pub record Sized (cells : List ℕ) (p : Part) (G : Groups) : Type 0 where
-  pub va : length G.abstracts ≡ p.abstracts.variables
-  pub vc : length G.concretes ≡ p.concretes.variables
-  pub vi : length G.inputs ≡ p.inputs.variables
-  pub vo : length G.outputs ≡ p.outputs.variables
-  pub vk : length G.primes ≡ p.primes.variables
-  pub vr : length G.readying ≡ p.readying.variables
-  pub vm : length G.meeting ≡ p.meeting.variables
-  pub na : p.abstracts.bindings ≡ span cells G.abstracts
-  pub nc : p.concretes.bindings ≡ span cells G.concretes
-  pub ni : p.inputs.bindings ≡ span cells G.inputs
-  pub nq : p.outputs.bindings ≡ span cells G.outputs
-  pub nk : p.primes.bindings ≡ span cells G.primes
-  pub nr : p.readying.bindings ≡ span cells G.readying
-  pub nm : p.meeting.bindings ≡ span cells G.meeting
-  pub few_a : (0 < p.abstracts.bindings) × (p.abstracts.bindings ≤ 4096)
-  pub few_c : (0 < p.concretes.bindings) × (p.concretes.bindings ≤ 4096)
-  pub few_i : (0 < p.inputs.bindings) × (p.inputs.bindings ≤ 64)
-  pub few_o : (0 < p.outputs.bindings) × (p.outputs.bindings ≤ 64)
-  pub few_k : (0 < p.primes.bindings) × (p.primes.bindings ≤ 4096)
-  pub few_r : p.readying.bindings ≤ 2 ^ 18
-  pub few_m : p.meeting.bindings ≤ 2 ^ 18
+  pub abstracts : SizedGroup cells G.abstracts p.abstracts 4096
+  pub concretes : SizedGroup cells G.concretes p.concretes 4096
+  pub inputs : SizedGroup cells G.inputs p.inputs 64
+  pub outputs : SizedGroup cells G.outputs p.outputs 64
+  pub primes : SizedGroup cells G.primes p.primes 4096
+  pub readying : SizedGroup cells G.readying p.readying (2 ^ 18)
+  pub meeting : SizedGroup cells G.meeting p.meeting (2 ^ 18)
+  pub some_a : 0 < p.abstracts.bindings
+  pub some_c : 0 < p.concretes.bindings
+  pub some_i : 0 < p.inputs.bindings
+  pub some_o : 0 < p.outputs.bindings
+  pub some_k : 0 < p.primes.bindings
   pub abstracts_are : G.abstracts ≡ upward 0 p.abstracts.variables
   pub concretes_are : G.concretes ≡ upward 8 p.concretes.variables
   pub inputs_are : G.inputs ≡ upward 16 p.inputs.variables
   pub inputs_few : p.inputs.variables ≤ 3
   pub grouped : Grouped cells 16 p.inputs.variables
+
+-- on which groups what must be there depends
+unfoldable pub DependsOn : Conclusion → PartTests → Type 0
+DependsOn OfState T = (a b c i o q k l : ℕ) → T.met a c i o k ≡ T.met b c i q l
+DependsOn OfStep T = (a c d i o k : ℕ) → T.met a c i o k ≡ T.met a d i o k
 
 -- the searches of a part find its tests, at every point; on which groups what must be there depends; no search writes a slot of a group before it
 pub record Nest (table plan cells : List ℕ) (p : Part) (G : Groups) (T : PartTests) : Type 0 where
@@ -67,8 +72,7 @@ pub record Nest (table plan cells : List ℕ) (p : Part) (G : Groups) (T : PartT
   pub met : SearchOf table plan cells 4 G.meeting meetly
   pub met_is : (δ : Point) → Tame cells δ → some_binding cells G.meeting meetly δ
       ≡ T.met (number_of cells G.abstracts δ) (number_of cells G.concretes δ) (number_of cells G.inputs δ) (number_of cells G.outputs δ) (number_of cells G.primes δ)
-  pub met_primed : p.primed ≡ true → (a c d i o k : ℕ) → T.met a c i o k ≡ T.met a d i o k
-  pub met_plain : p.primed ≡ false → (a b c i o q k l : ℕ) → T.met a c i o k ≡ T.met b c i q l
+  pub depends : DependsOn p.conclusion T
   pub apart_abstracts : Apart G.abstracts (G.concretes ++ (G.inputs ++ (G.outputs ++ (G.primes ++ (G.readying ++ G.meeting)))))
   pub apart_concretes : Apart G.concretes (G.inputs ++ (G.outputs ++ (G.primes ++ G.meeting)))
   pub apart_inputs : Apart G.inputs (G.outputs ++ (G.primes ++ (G.readying ++ G.meeting)))
@@ -116,15 +120,21 @@ pub record ReadyAnswers (table plan cells : List ℕ) (p : Part) (before after :
   pub bits : ForNest table plan cells p before (λ (G : Groups) (T : PartTests) (δ : Point). (i : ℕ) → i < p.inputs.bindings → has r i ≡ T.ready (number_of cells G.abstracts δ) i)
   pub left : ForNest table plan cells p before (λ (G : Groups) (T : PartTests) (δ : Point). Stepped cells (G.inputs ++ G.readying) δ 0 0 after)
 
--- the next bit of a mask, whose inputs the slots then have
+-- asked where the inputs get values
 pub record InputAsked (cells : List ℕ) (p : Part) (before : List (List ℤ)) : Type 0 where
   pub table : List ℕ
   pub plan : List ℕ
   pub asked : NestAsked table plan cells p before
 
+-- the inputs have the values of their i-th binding; behind the last one, those that they had
+abbrev pub InputsBound : (cells : List ℕ) (p : Part) (i : ℕ) (before after : List (List ℤ)) → Type 0
+InputsBound cells p i before after =
+    (table plan : List ℕ) → ForNest table plan cells p before (λ (G : Groups) (T : PartTests) (δ : Point). Stepped cells G.inputs δ p.inputs.bindings i after)
+
+-- the next bit of a mask, whose inputs the slots then have
 pub record InputAnswers (cells : List ℕ) (p : Part) (mask i : ℕ) (before after : List (List ℤ)) (r : ℕ) : Type 0 where
   pub sought : Sought (has mask) i p.inputs.bindings r
-  pub left : (table plan : List ℕ) → ForNest table plan cells p before (λ (G : Groups) (T : PartTests) (δ : Point). Stepped cells G.inputs δ p.inputs.bindings r after)
+  pub left : InputsBound cells p r before after
 
 pub record OutputAnswers (table plan cells : List ℕ) (p : Part) (o : ℕ) (before after : List (List ℤ)) (r : ℕ) : Type 0 where
   pub sought : ForNest table plan cells p before

@@ -23,13 +23,13 @@ pub record MasksAnswers (table plan : List ℕ) (p : Part) (m : Masks) : Type 0 
 
 -- the groups by whose keys blocks are alike: of the abstract state of a pair, of its concrete state, of an abstract state alone
 abbrev pub pair_group : Part → Masks → KeyGroup
-pair_group p m = record { first = 0; many = p.abstracts.variables; count = p.abstracts.bindings; idle = m.pairs }
+pair_group p m = record { first = 0; size = p.abstracts; idle = m.pairs }
 
 abbrev pub concrete_group : Part → Masks → KeyGroup
-concrete_group p m = record { first = 8; many = p.concretes.variables; count = p.concretes.bindings; idle = m.concretes }
+concrete_group p m = record { first = 8; size = p.concretes; idle = m.concretes }
 
 abbrev pub whole_group : Part → Masks → KeyGroup
-whole_group p m = record { first = 0; many = p.abstracts.variables; count = p.abstracts.bindings; idle = m.wholes }
+whole_group p m = record { first = 0; size = p.abstracts; idle = m.wholes }
 
 -- what is marked passes
 pub record PairsSeen (table plan cells : List ℕ) (p : Part) (m : Masks) (seen : List ℕ) : Type 0 where

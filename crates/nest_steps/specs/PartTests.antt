@@ -1,5 +1,6 @@
 -- The tests of a part by the numbers of its groups' bindings: abstract, concrete, inputs, outputs, concrete primed. Nothing here need be believed.
-use Rattle.std.specs.Prelude.{◌≡◌, Option, None, Some, Bool, true, false, not, ◌&&◌, ◌||◌, ℕ, ◌/◌, ◌%◌, ◌<◌, ◌≤◌}
+use Rattle.std.specs.Prelude.{◌≡◌, Option, None, Some, Bool, true, false, not, ◌&&◌, ◌||◌, ℕ, ◌*◌, ◌/◌, ◌%◌, ◌<◌, ◌≤◌}
+use Rattle.plans.specs.declared.Part.{Part}
 
 -- the premises one after the other, and what must be there where they hold; `front`: no test without a primed variable excludes these outputs
 pub record PartTests : Type 0 where
@@ -18,6 +19,13 @@ passes_at T a c i o k = not (T.state a && T.related a c && T.ready a i && T.step
 unfoldable pub passes_from : PartTests → (nc ni nq nk : ℕ) → (place : ℕ) → Bool
 passes_from T nc ni nq nk place =
     passes_at T (place / nk / nq / ni / nc) (place / nk / nq / ni % nc) (place / nk / nq % ni) (place / nk % nq) (place % nk)
+
+-- how many places a part has: the bindings of its groups, one of each; what passes at a place of it
+abbrev pub places : Part → ℕ
+places p = p.abstracts.bindings * p.concretes.bindings * p.inputs.bindings * p.outputs.bindings * p.primes.bindings
+
+abbrev pub passing : Part → PartTests → ℕ → Bool
+passing p T = passes_from T p.concretes.bindings p.inputs.bindings p.outputs.bindings p.primes.bindings
 
 -- where a search up to an end stopped that found the first failing place, or none
 abbrev pub stopped_at : (end : ℕ) → Option ℕ → ℕ

@@ -1,7 +1,9 @@
 -- Conclusions that are known inside one sweep: where each has its mark, and that a mark is of a conclusion that is true. Nothing here need be believed.
-use Rattle.std.specs.Prelude.{◌≡◌, Bool, true, false, List, ℕ, ◌+◌, ◌*◌, ◌<◌, ◌≤◌, get_or, length, set, ℤ}
+use Rattle.std.specs.Prelude.{◌≡◌, Bool, true, List, ℕ, ◌+◌, ◌*◌, ◌<◌, ◌≤◌, get_or, length, set, ℤ}
 use Rattle.points.specs.Points.{Point, number_of, Shows}
 use Rattle.plans.specs.declared.Part.{Part}
+use Rattle.plans.specs.declared.Conclusion.{Conclusion}
+use Rattle.plans.specs.declared.Conclusion.TheVariants.{OfState, OfStep}
 use Rattle.nest_steps.specs.declared.known.Numbers.{Numbers}
 use Rattle.nest_steps.specs.PartTests.{PartTests}
 use Rattle.nest_steps.specs.NestPromises.{Groups, Nest, NestAsked, Stepped, ForNest}
@@ -10,19 +12,19 @@ abbrev pub numbered : (a c i o k : ℕ) → Numbers
 numbered a c i o k = record { a = a; c = c; i = i; o = o; k = k }
 
 -- by what the conclusion depends on but for the abstract state; by that state, where it does on it
-unfoldable pub key_at : (primed : Bool) → Part → Numbers → ℕ
-key_at true p b = (b.i * p.outputs.bindings + b.o) * p.primes.bindings + b.k
-key_at false p b = b.c * p.inputs.bindings + b.i
+unfoldable pub key_at : Conclusion → Part → Numbers → ℕ
+key_at OfState p b = b.c * p.inputs.bindings + b.i
+key_at OfStep p b = (b.i * p.outputs.bindings + b.o) * p.primes.bindings + b.k
 
-unfoldable pub mark_at : (primed : Bool) → Numbers → ℕ
-mark_at true b = b.a + 1
-mark_at false b = 1
+unfoldable pub mark_at : Conclusion → Numbers → ℕ
+mark_at OfState b = 1
+mark_at OfStep b = b.a + 1
 
 abbrev pub key_of : Part → Numbers → ℕ
-key_of p b = key_at p.primed p b
+key_of p b = key_at p.conclusion p b
 
 abbrev pub mark_of : Part → Numbers → ℕ
-mark_of p b = mark_at p.primed b
+mark_of p b = mark_at p.conclusion b
 
 abbrev pub met_at : PartTests → Numbers → Bool
 met_at T b = T.met b.a b.c b.i b.o b.k

@@ -49,8 +49,7 @@ fn pair_group(p: &Part, m: Masks) -> KeyGroup
 {
     KeyGroup {
         first: ABSTRACT,
-        many: p.abstracts.variables,
-        count: p.abstracts.bindings,
+        size: p.abstracts,
         idle: m.pairs,
     }
 }
@@ -61,8 +60,7 @@ pub fn concrete_group(p: &Part, m: Masks) -> KeyGroup
 {
     KeyGroup {
         first: CONCRETE,
-        many: p.concretes.variables,
-        count: p.concretes.bindings,
+        size: p.concretes,
         idle: m.concretes,
     }
 }
@@ -73,8 +71,7 @@ pub fn whole_group(p: &Part, m: Masks) -> KeyGroup
 {
     KeyGroup {
         first: ABSTRACT,
-        many: p.abstracts.variables,
-        count: p.abstracts.bindings,
+        size: p.abstracts,
         idle: m.wholes,
     }
 }

@@ -28,8 +28,7 @@ pub(crate) fn next_abstract(
     let span = Span {
         u: STATES,
         j: 0,
-        m: s.part.abstracts.variables,
-        w: s.part.abstracts.bindings,
+        size: s.part.abstracts,
         from: a,
     };
     seek(s, span, slots, memo)
@@ -51,8 +50,7 @@ pub(crate) fn next_concrete(
     let span = Span {
         u: RELATED,
         j: 0,
-        m: s.part.concretes.variables,
-        w: s.part.concretes.bindings,
+        size: s.part.concretes,
         from: c,
     };
     seek(s, span, slots, memo)
@@ -74,8 +72,7 @@ pub fn next_output(
     let span = Span {
         u: STEPS,
         j: 0,
-        m: s.part.outputs.variables,
-        w: s.part.outputs.bindings,
+        size: s.part.outputs,
         from: o,
     };
     seek(s, span, slots, memo)
@@ -97,8 +94,7 @@ pub fn next_after(
     let span = Span {
         u: STEPS,
         j: s.part.outputs.variables,
-        m: s.part.primes.variables,
-        w: s.part.primes.bindings,
+        size: s.part.primes,
         from: k,
     };
     seek(s, span, slots, memo)

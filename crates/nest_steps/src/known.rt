@@ -2,7 +2,7 @@
 ghost use Rattle.std.specs.Prelude.{◌≡◌, true, get_or};
 ghost use Rattle.nest_steps.specs.Remembering.{key_of, mark_of, Inside, Noted};
 
-use plans::Part;
+use plans::{Conclusion, Part};
 
 // How many places there are for marks; a conclusion whose key is behind them is searched for each time.
 pub const KNOWN: usize = 65536;
@@ -22,10 +22,10 @@ pub(crate) fn key_of(p: &Part, b: Numbers) -> usize
     requires { Inside p.now b }
     ensures { result ≡ key_of p.now b }
 {
-    if p.primed {
-        return (b.i * p.outputs.bindings + b.o) * p.primes.bindings + b.k;
+    match p.conclusion {
+        Conclusion::OfState => b.c * p.inputs.bindings + b.i,
+        Conclusion::OfStep => (b.i * p.outputs.bindings + b.o) * p.primes.bindings + b.k,
     }
-    b.c * p.inputs.bindings + b.i
 }
 
 // The mark: the abstract state, where the conclusion depends on it.
@@ -35,10 +35,10 @@ pub(crate) fn mark_of(p: &Part, b: Numbers) -> u16
     requires { Inside p.now b }
     ensures { result ≡ mark_of p.now b }
 {
-    if p.primed {
-        return (b.a + 1) as u16;
+    match p.conclusion {
+        Conclusion::OfState => 1,
+        Conclusion::OfStep => (b.a + 1) as u16,
     }
-    1
 }
 
 // Does the mark stand there?

@@ -1,14 +1,16 @@
 // The steps of the nest: the inputs at which the abstract precondition holds, the next of them, and whether a binding passes; in modules the next candidate of each group, the conclusions
 // that are known to be true, and the blocks that pass alike.
-// Form 5: the slots and the memories are lent to be written beside a search that is only read: in a struct of all each function would have to promise that the search is as it was. The
-// numbers of candidates change with each call.
+// Form 5: `NestAsked` and `Memo` relate the slots and the memory, which are written, to the search, which is read. In a struct of all three with both as its invariant, each of the ten
+// functions that ask them would promise instead that it leaves the search, and `nest::sweep`, which lends them twelve times, would say in the invariants of its five loops that the
+// search of the struct is still its own. A struct of slots and memory alone can have neither as its invariant: both name arrays of the search. The bound of a candidate is a size of the
+// search's part: a type of numbers with that as its invariant would have to hold it beside each number.
 #![tactic(auto)]
 
 ghost use Rattle.std.specs.Prelude.{◌<◌, ◌≤◌};
 ghost use Rattle.sets.specs.Sets.{has};
 ghost use Rattle.memo.specs.MemoPromises.{Memo};
 ghost use Rattle.points.specs.Searches.{Sought};
-ghost use Rattle.nest_steps.specs.NestPromises.{NestAsked, AbstractPreAnswers, PreAnswers, ReadyAnswers, InputAsked, InputAnswers, MetAnswers};
+ghost use Rattle.nest_steps.specs.NestPromises.{NestAsked, AbstractPreAnswers, PreAnswers, ReadyAnswers, InputAsked, InputsBound, InputAnswers, MetAnswers};
 ghost use Rattle.nest_steps.specs.Remembering.{Remembered, BindingAsked, AgainAnswers};
 
 use crate::known::{KNOWN, Numbers, is_known, key_of, mark_of, remember};
@@ -38,8 +40,7 @@ fn abstract_pre(
     let span = Span {
         u: READY,
         j: 0,
-        m: s.part.readying.variables,
-        w: s.part.readying.bindings,
+        size: s.part.readying,
         from: 0,
     };
     seek(s, span, slots, memo) < s.part.readying.bindings
@@ -60,8 +61,7 @@ fn passes(
     let span = Span {
         u: MET,
         j: 0,
-        m: s.part.meeting.variables,
-        w: s.part.meeting.bindings,
+        size: s.part.meeting,
         from: 0,
     };
     seek(s, span, slots, memo) < s.part.meeting.bindings
@@ -93,6 +93,15 @@ pub fn passes_again(
     true
 }
 
+// The inputs get the values of their i-th binding.
+fn bind_inputs(s: &PartSearch<'_>, i: usize, slots: &mut [[i64; SLOTS]; 2])
+    requires i_lt_ni { i < s.now.part.inputs.bindings }
+    requires input_asked { InputAsked s.now.cells.now s.now.part slots.old }
+    ensures { InputsBound s.now.cells.now s.now.part i slots.old slots.new }
+{
+    bind(s.cells, INPUTS, s.part.inputs, i, &mut slots[BEFORE]);
+}
+
 // The abstract precondition at the i-th inputs.
 fn pre_at(
     s: &PartSearch<'_>,
@@ -106,18 +115,13 @@ fn pre_at(
     ensures answers { PreAnswers s.now.table.now s.now.plan.now s.now.cells.now s.now.part i slots.old slots.new result }
     ensures remembers { Memo s.now.table.now memo.new }
 {
-    bind(
-        s.cells,
-        INPUTS,
-        s.part.inputs.variables,
-        s.part.inputs.bindings,
-        i,
-        &mut slots[BEFORE],
-    );
+    bind_inputs(s, i, slots);
     abstract_pre(s, slots, memo)
 }
 
 // The inputs at which the abstract precondition holds at this abstract state, as bits; the last one's first, so that each one doubles what is there.
+// Form 2: `points::masks::mask_of` makes such a mask by a test that changes nothing. This one binds the inputs and remembers, and what a closure has written is
+// known to no law once the closure is gone: `answers` and `remembers` say what the slots and the memory are then.
 pub fn ready(
     s: &PartSearch<'_>,
     slots: &mut [[i64; SLOTS]; 2],
@@ -158,14 +162,7 @@ pub fn next_input(
 {
     let i = next_bit(mask, from, s.part.inputs.bindings);
     if i < s.part.inputs.bindings {
-        bind(
-            s.cells,
-            INPUTS,
-            s.part.inputs.variables,
-            s.part.inputs.bindings,
-            i,
-            &mut slots[BEFORE],
-        );
+        bind_inputs(s, i, slots);
     }
     i
 }

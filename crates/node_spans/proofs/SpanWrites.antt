@@ -3,45 +3,40 @@ use mathlib.Core.Path.{◌≡◌, sym, ap, ◌∙◌, subst}
 use mathlib.Core.List.{List, [], ◌∷◌, ◌++◌, append_assoc, append-nil}
 use Prim.Native.Nat.{ℕ, suc, ◌+◌, ◌-◌, ◌*◌, ◌≤◌, ◌<◌}
 use native.Mathlib.Omega.{arith}
-use lib.ListN.{length, take, drop, get_or, set, length-set, length-append, length-drop}
+use lib.ListN.{length, take, drop, get_or, set, length-append, length-drop}
 use lib.Seq.{set-append_seam, drop-cons}
 use Rattle.parser.specs.Sections.{Run, Skips, RunsTo}
-use Rattle.node_spans.specs.SpanPromises.{Filled, Puts, Three, Item, Declared, StatePut, OperationPut, OperationsIn, no_operation, an_operation, Ahead}
+use Rattle.node_spans.specs.SpanPromises.{Filled, NumberPut, Three, Item, Declared, StatePut, OperationPut, OperationsIn, no_operation, an_operation, Ahead}
 
 -- a number in the place behind w
-pub puts : (s : List ℕ) (n v x : ℕ) → (x ≤ 65535 → v ≡ x) → n < length s → Puts n x s (set s n v)
-puts s n v x g l =
+fills : {n x : ℕ} {s s' : List ℕ} → NumberPut n x s s' → n < length s → (s₀ w : List ℕ) → x ≤ 65535 → n ≡ length w → Filled s₀ s w → Filled s₀ s' (w ++ (x ∷ []))
+fills {n} {x} {s} {s'} p l s₀ w h e f =
+    let k : length s ≡ length w + length (drop (length w) s₀) = ap length f.filled ∙ length-append w (drop (length w) s₀) in
+    let j : length (drop (length w) s₀) ≡ length s₀ - length w = length-drop (length w) s₀ in
+    let c : drop (length w) s₀ ≡ get_or s₀ (length w) 0 ∷ drop (suc (length w)) s₀ = drop-cons s₀ (length w) 0 (omega arith) in
+    let b : length (w ++ (x ∷ [])) ≡ length w + 1 = length-append w (x ∷ []) in
+    let a : suc (length w) ≡ length (w ++ (x ∷ [])) = omega arith in
     record {
-      same = length-set s n v;
-      fills =
-          λ s₀ w h e f.
-          let k : length s ≡ length w + length (drop (length w) s₀) = ap length f.filled ∙ length-append w (drop (length w) s₀) in
-          let j : length (drop (length w) s₀) ≡ length s₀ - length w = length-drop (length w) s₀ in
-          let c : drop (length w) s₀ ≡ get_or s₀ (length w) 0 ∷ drop (suc (length w)) s₀ = drop-cons s₀ (length w) 0 (omega arith) in
-          let b : length (w ++ (x ∷ [])) ≡ length w + 1 = length-append w (x ∷ []) in
-          let a : suc (length w) ≡ length (w ++ (x ∷ [])) = omega arith in
-          record {
-            filled =
-                ap (λ (y : List ℕ). set y n v) f.filled ∙ ap (λ (y : List ℕ). set (w ++ y) n v) c
-                ∙ ap (λ (i : ℕ). set (w ++ (get_or s₀ (length w) 0 ∷ drop (suc (length w)) s₀)) i v) e
-                ∙ set-append_seam w (get_or s₀ (length w) 0) (drop (suc (length w)) s₀) v
-                ∙ ap (λ (i : ℕ). w ++ (i ∷ drop (suc (length w)) s₀)) (g h)
-                ∙ sym (append_assoc w (x ∷ []) (drop (suc (length w)) s₀))
-                ∙ ap (λ (i : ℕ). (w ++ (x ∷ [])) ++ drop i s₀) a;
-          };
+      filled =
+          p.puts h ∙ ap (λ (y : List ℕ). set y n x) f.filled ∙ ap (λ (y : List ℕ). set (w ++ y) n x) c
+          ∙ ap (λ (i : ℕ). set (w ++ (get_or s₀ (length w) 0 ∷ drop (suc (length w)) s₀)) i x) e
+          ∙ set-append_seam w (get_or s₀ (length w) 0) (drop (suc (length w)) s₀) x ∙ sym (append_assoc w (x ∷ []) (drop (suc (length w)) s₀))
+          ∙ ap (λ (i : ℕ). (w ++ (x ∷ [])) ++ drop i s₀) a;
     }
 
-pub three : {n x y z : ℕ} {s s₁ s₂ s₃ : List ℕ} → Puts n x s s₁ → Puts (n + 1) y s₁ s₂ → Puts (n + 2) z s₂ s₃ → Three n x y z s s₃
-three {n} {x} {y} {z} {s} {s₁} {s₂} {s₃} p q r =
+pub three : {n x y z : ℕ} {s s₁ s₂ s₃ : List ℕ} → NumberPut n x s s₁ → NumberPut (n + 1) y s₁ s₂ → NumberPut (n + 2) z s₂ s₃ → n + 3 ≤ length s → Three n x y z s s₃
+three {n} {x} {y} {z} {s} {s₁} {s₂} {s₃} p q r l =
+    let k = p.same in
+    let m = q.same in
     record {
       same = r.same ∙ q.same ∙ p.same;
       fills =
           λ s₀ w h i j e f.
           let a : length (w ++ (x ∷ [])) ≡ length w + 1 = length-append w (x ∷ []) in
           let b : length ((w ++ (x ∷ [])) ++ (y ∷ [])) ≡ length (w ++ (x ∷ [])) + 1 = length-append (w ++ (x ∷ [])) (y ∷ []) in
-          let u : Filled s₀ s₁ (w ++ (x ∷ [])) = p.fills s₀ w h e f in
-          let v : Filled s₀ s₂ ((w ++ (x ∷ [])) ++ (y ∷ [])) = q.fills s₀ (w ++ (x ∷ [])) i (omega arith) u in
-          let t : Filled s₀ s₃ (((w ++ (x ∷ [])) ++ (y ∷ [])) ++ (z ∷ [])) = r.fills s₀ ((w ++ (x ∷ [])) ++ (y ∷ [])) j (omega arith) v in
+          let u : Filled s₀ s₁ (w ++ (x ∷ [])) = fills p (omega arith) s₀ w h e f in
+          let v : Filled s₀ s₂ ((w ++ (x ∷ [])) ++ (y ∷ [])) = fills q (omega arith) s₀ (w ++ (x ∷ [])) i (omega arith) u in
+          let t : Filled s₀ s₃ (((w ++ (x ∷ [])) ++ (y ∷ [])) ++ (z ∷ [])) = fills r (omega arith) s₀ ((w ++ (x ∷ [])) ++ (y ∷ [])) j (omega arith) v in
           subst (λ (l : List ℕ). Filled s₀ s₃ l) (append_assoc (w ++ (x ∷ [])) (y ∷ []) (z ∷ []) ∙ append_assoc w (x ∷ []) (y ∷ z ∷ [])) t;
     }
 
@@ -83,8 +78,10 @@ state-put {a} {m} {from} {to} {n} {first} {last} {s} {s'} p q r =
     }
 
 pub operation-put : {a : List ℕ} {m from n first last middle end : ℕ} {s s₁ s₂ : List ℕ} → Skips a m from first → (first ≤ m → RunsTo a m 6 6 first last)
-    → Skips a m last middle → Skips a m middle end → Three n first last middle s s₁ → Puts (n + 3) end s₁ s₂ → OperationPut (take m a) m from n s s₂ end
-operation-put {a} {m} {from} {n} {first} {last} {middle} {end} {s} {s₁} {s₂} p q g h y z =
+    → Skips a m last middle → Skips a m middle end → Three n first last middle s s₁ → NumberPut (n + 3) end s₁ s₂ → n + 4 ≤ length s
+    → OperationPut (take m a) m from n s s₂ end
+operation-put {a} {m} {from} {n} {first} {last} {middle} {end} {s} {s₁} {s₂} p q g h y z room =
+    let same = y.same in
     record {
       same = z.same ∙ y.same;
       behind = λ b c e f x. next-item x.concretely (next-item x.abstractly (declared-end x.parameters p q).is g) h;
@@ -100,7 +97,7 @@ operation-put {a} {m} {from} {n} {first} {last} {middle} {end} {s} {s₁} {s₂}
           let j₃ = h.within in
           let b₁ : length (w ++ (first ∷ last ∷ middle ∷ [])) ≡ length w + 3 = length-append w (first ∷ last ∷ middle ∷ []) in
           let t₁ : Filled s₀ s₁ (w ++ (first ∷ last ∷ middle ∷ [])) = y.fills s₀ w (omega arith) (omega arith) (omega arith) k i in
-          let t₂ : Filled s₀ s₂ ((w ++ (first ∷ last ∷ middle ∷ [])) ++ (end ∷ [])) = z.fills s₀ (w ++ (first ∷ last ∷ middle ∷ [])) (omega arith) (omega arith) t₁ in
+          let t₂ : Filled s₀ s₂ ((w ++ (first ∷ last ∷ middle ∷ [])) ++ (end ∷ [])) = fills z (omega arith) s₀ (w ++ (first ∷ last ∷ middle ∷ [])) (omega arith) (omega arith) t₁ in
           let t : Filled s₀ s₂ (w ++ (first ∷ last ∷ middle ∷ end ∷ [])) =
           subst (λ (o : List ℕ). Filled s₀ s₂ o) (append_assoc w (first ∷ last ∷ middle ∷ []) (end ∷ [])) t₂ in
           let o : ◌≡◌ {A = List ℕ} (first ∷ last ∷ middle ∷ end ∷ []) (b ∷ c ∷ e ∷ f ∷ []) = λ i₁. u₁ i₁ ∷ v.is i₁ ∷ u₃ i₁ ∷ u₄ i₁ ∷ [] in

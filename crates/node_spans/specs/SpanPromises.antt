@@ -1,15 +1,15 @@
 -- What the functions promise each other. Nothing here need be believed.
-use Rattle.std.specs.Prelude.{◌≡◌, List, [], ◌∷◌, ◌++◌, ℕ, suc, ◌+◌, ◌*◌, ◌≤◌, length, drop}
+use Rattle.std.specs.Prelude.{◌≡◌, List, [], ◌∷◌, ◌++◌, ℕ, suc, ◌+◌, ◌*◌, ◌≤◌, length, drop, set}
 use Rattle.parser.specs.Sections.{size_at, Run}
 
 -- the numbers w are written in front of s₀, and what stood behind them stays
 pub record Filled (s₀ s w : List ℕ) : Type 0 where
   pub filled : s ≡ w ++ drop (length w) s₀
 
--- one number more, behind n of them
-pub record Puts (n x : ℕ) (s s' : List ℕ) : Type 0 where
+-- the number n in the place k, where it has 16 bits
+pub record NumberPut (k n : ℕ) (s s' : List ℕ) : Type 0 where
   pub same : length s' ≡ length s
-  pub fills : (s₀ w : List ℕ) → x ≤ 65535 → n ≡ length w → Filled s₀ s w → Filled s₀ s' (w ++ (x ∷ []))
+  pub puts : n ≤ 65535 → s' ≡ set s k n
 
 pub record Three (n x y z : ℕ) (s s' : List ℕ) : Type 0 where
   pub same : length s' ≡ length s

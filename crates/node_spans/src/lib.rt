@@ -7,7 +7,7 @@
 
 ghost use Rattle.std.specs.Prelude.{◌≡◌, ◌+◌, ◌*◌, ◌≤◌, ◌<◌, length, take};
 ghost use Rattle.node_spans.specs.Spans.{Spanned, span};
-ghost use Rattle.node_spans.specs.SpanPromises.{Puts, Three, StatePut, OperationPut, OperationsPut};
+ghost use Rattle.node_spans.specs.SpanPromises.{NumberPut, Three, StatePut, OperationPut, OperationsPut};
 
 use form::shapes::DECLARED;
 use lexical::classes::at_or;
@@ -28,7 +28,7 @@ pub struct Parts<'a> {
 impl<'a> Parts<'a> {
     // The number k of the spans.
     pub fn span(&self, k: usize) -> usize
-        ensures { result ≡ span self.now.spans.now k }
+        ensures { (result ≡ span self.now.spans.now k) × (result < 65536) }
     {
         let spans = self.spans;
         span_at(spans, k)
@@ -80,26 +80,23 @@ pub fn operation_spans(spans: &[u16], k: usize) -> OperationSpans
     }
 }
 
-// The largest number of 16 bits.
-pub const LARGEST: usize = 65535;
-
-// A number behind the first n of the spans.
-// Form 1: the array that the caller lends has numbers of 16 bits and nothing else (document 01): 0 stands for a place above them, and the nodes of a dossier
-// have none.
-fn put(spans: &mut [u16], n: usize, x: usize)
-    requires { n < length spans.old }
-    ensures { Puts n x spans.old spans.new }
+// The number n in the place k.
+// Form 1: the arrays that the caller lends have numbers of 16 bits and nothing else (document 01): 0 stands for a number above them, and neither the places
+// among a dossier's nodes nor the rows of its conjuncts are as many.
+pub fn put_number(numbers: &mut [u16], k: usize, n: usize)
+    requires { k < length numbers.old }
+    ensures { NumberPut k n numbers.old numbers.new }
 {
-    spans[n] = u16::try_from(x).unwrap_or(0);
+    numbers[k] = u16::try_from(n).unwrap_or(0);
 }
 
 fn three(spans: &mut [u16], n: usize, x: usize, y: usize, z: usize)
     requires { n + 3 ≤ length spans.old }
     ensures { Three n x y z spans.old spans.new }
 {
-    put(spans, n, x);
-    put(spans, n + 1, y);
-    put(spans, n + 2, z);
+    put_number(spans, n, x);
+    put_number(spans, n + 1, y);
+    put_number(spans, n + 2, z);
 }
 
 // Of the state between two places: where its variables begin and end, and its predicate ends.
@@ -122,7 +119,7 @@ fn operation(made: &Nodes<'_>, from: usize, spans: &mut [u16], n: usize) -> usiz
     let middle = made.skip(last);
     let end = made.skip(middle);
     three(spans, n, first, last, middle);
-    put(spans, n + span::END, end);
+    put_number(spans, n + span::END, end);
     end
 }
 

@@ -21,7 +21,7 @@ carried_on m s [] (r ∷ rs) k p = absurd p
 carried_on m s (e ∷ es) [] k p = absurd p
 carried_on m s (e ∷ es) (r ∷ rs) k p = carried_on m r.state es rs p.0.carried p.1
 
-related-on : (R : Relation) (a c : Binding) (gs hs : List Outcome) → Related R a c → Alike R gs hs → Related R (last a gs) (last c hs)
+pub related-on : (R : Relation) (a c : Binding) (gs hs : List Outcome) → Related R a c → Alike R gs hs → Related R (last a gs) (last c hs)
 unfolding Alike last
 related-on R a c [] [] r p = r
 related-on R a c [] (h ∷ hs) r p = absurd p

@@ -1,14 +1,16 @@
 -- Signed numbers of 64 bits: what is written and read back, and what fits. Assumes nothing.
 use mathlib.Core.Path.{◌≡◌, refl, sym, ap, ap₂, subst, ◌∙◌}
-use mathlib.Core.Bool.{Bool, true, false, ◌&&◌}
+use mathlib.Core.Bool.{Bool, true, false, ◌&&◌, cond}
 use Prim.Native.Nat.{ℕ, suc, ◌+◌, ◌-◌, ◌*◌, ◌^◌, ◌<◌, ◌≤◌}
 use native.Mathlib.Nat.{lt_of_le_of_lt, lt_of_lt_of_le, le_of_lt, mul-le-mul}
 use native.Mathlib.Omega.{arith}
 use native.Mathlib.Decide.{ℕ_discrete}
-use lib.Dec.{T, eqb, lit<, lit≤}
+use lib.Dec.{T, eqb, leb, ltb, lit<, lit≤}
 use lib.IntN.{ℤ, pos, negsuc, neg_ℤ, nat_abs, ◌+ℤ◌, ◌-ℤ◌, ◌*ℤ◌, +ℤ_idl, pos-ne-negsuc}
 use lib.Signed.{mag, non_neg, le_z, lt_z}
-use borrow.Author.Tests.{eq-eqb, ne_eqb}
+use borrow.Author.Tests.{eq-eqb, ne_eqb, le-leb, lt-leb, ltb-true, ltb-false}
+use Rattle.std.specs.Ordering.{is_le, is_lt, int_cmp}
+use Rattle.std.specs.declared.cmp.Ordering.TheVariants.{Less, Equal, Greater}
 use mir.Syntax.{Width, w16, w32, w64}
 use mir.Val.{Fits, SFits, of_z, to_z, bits}
 use mir.Facts.{to_z-of_z, to_z_pos}
@@ -125,17 +127,17 @@ of_16 n f = to_z_pos w64 {n = n} (lt_of_lt_of_le f.fits (lit≤ tt))
 widened : (n : ℕ) {z : ℤ} → Fits w16 n → z ≡ pos n → to_z w64 (of_z w64 z) ≡ pos n
 widened n f e = ap (λ (v : ℤ). to_z w64 (of_z w64 v)) e ∙ of_16 n f
 
-pub of_16_in_32 : (n : ℕ) → Fits w16 n → to_z w32 n ≡ pos n
-of_16_in_32 n f = to_z_pos w32 {n = n} (lt_of_lt_of_le f.fits (lit≤ tt))
+module _ (n : ℕ) {z : ℤ} (f : Fits w16 n) (e : z ≡ pos n) where
+  pub in_32 : to_z w32 (of_z w32 z) ≡ pos n
+  in_32 = ap (λ (v : ℤ). to_z w32 (of_z w32 v)) e ∙ to_z_pos w32 {n = n} (lt_of_lt_of_le f.fits (lit≤ tt))
 
-module _ (n : ℕ) (f : Fits w16 n) where
-  below : pos 0 -ℤ to_z w32 n ≡ neg_ℤ (pos n)
-  below = ap (λ (z : ℤ). pos 0 -ℤ z) (of_16_in_32 n f) ∙ +ℤ_idl (neg_ℤ (pos n))
+  below : pos 0 -ℤ to_z w32 (of_z w32 z) ≡ neg_ℤ (pos n)
+  below = ap (λ (v : ℤ). pos 0 -ℤ v) in_32 ∙ +ℤ_idl (neg_ℤ (pos n))
 
-  pub below-fits : SFits w32 (pos 0 -ℤ to_z w32 n)
+  pub below-fits : SFits w32 (pos 0 -ℤ to_z w32 (of_z w32 z))
   below-fits = rw below (record { sfits = lt_of_le_of_lt (mag_neg_abs (pos n)) (lt_of_lt_of_le f.fits (lit≤ tt)) })
 
-  pub below-back : to_z w32 (of_z w32 (pos 0 -ℤ to_z w32 n)) ≡ neg_ℤ (pos n)
+  pub below-back : to_z w32 (of_z w32 (pos 0 -ℤ to_z w32 (of_z w32 z))) ≡ neg_ℤ (pos n)
   below-back = to_z-of_z below-fits ∙ below
 
 -- ---- the bit of a pair
@@ -168,25 +170,34 @@ module _ (m : ℕ) (x y : ℤ) {z : ℤ} (l : Fits w16 m) (e : z ≡ pos m) (f :
 
 -- ---- one of the n numbers from a low one on
 
-module _ (low : ℤ) (n : ℕ) (x : ℤ) (f : SFits w64 low) (l : Fits w16 n) (g : SFits w64 x) (a : nat_abs low < 131072) where
-  test : {t : Bool} → le_z (to_z w64 (of_z w64 low)) (to_z w64 (of_z w64 x)) ≡ t → t ≡ le_z low x
-  test e = sym e ∙ ap₂ le_z (to_z-of_z f) (to_z-of_z g)
+below-as : (p q : Bool) → is_lt (cond p Less (cond q Greater Equal)) ≡ p
+below-as true q = refl
+below-as false true = refl
+below-as false false = refl
 
-  pub before-low : le_z (to_z w64 (of_z w64 low)) (to_z w64 (of_z w64 x)) ≡ false → false ≡ in_range low n x
-  unfolding in_range
-  before-low e = ap (λ (t : Bool). t && lt_z x (low +ℤ pos n)) (test e)
+at-most_of : (a b : ℕ) (p q : Bool) → ltb a b ≡ p → ltb b a ≡ q → is_le (cond p Less (cond q Greater Equal)) ≡ leb a b
+at-most_of a b true q e f = sym (le-leb a b (omega (arith, ltb-true a b e)))
+at-most_of a b false true e f = sym (lt-leb a b (ltb-true b a f))
+at-most_of a b false false e f = sym (le-leb a b (omega (arith, ltb-false b a f)))
 
+at_most : (x y : ℤ) → is_le (int_cmp x y) ≡ le_z x y
+at_most (pos a) (pos b) = at-most_of a b _ _ refl refl
+at_most (pos a) (negsuc b) = refl
+at_most (negsuc a) (pos b) = refl
+at_most (negsuc a) (negsuc b) = at-most_of b a _ _ refl refl
+
+module _ (low : ℤ) (n : ℕ) {z : ℤ} (f : SFits w64 low) (l : Fits w16 n) (a : nat_abs low < 131072) (h : z ≡ pos n) where
   -- the end, from how many they are as the machine has it
-  module _ {z : ℤ} (h : z ≡ pos n) where
-    abbrev End : ℤ
-    End = to_z w64 (of_z w64 low) +ℤ to_z w64 (of_z w64 z)
+  abbrev End : ℤ
+  End = to_z w64 (of_z w64 low) +ℤ to_z w64 (of_z w64 z)
 
-    end : End ≡ low +ℤ pos n
-    end = ap₂ ◌+ℤ◌ (to_z-of_z f) (widened n l h)
+  end : End ≡ low +ℤ pos n
+  end = ap₂ ◌+ℤ◌ (to_z-of_z f) (widened n l h)
 
-    pub end_fits : SFits w64 End
-    end_fits = rw end (record { sfits = lt_of_lt_of_le (add-mag low (pos n) 131072 (2 ^ 16) (lt_of_le_of_lt (mag_abs low) a) l.fits) (lit≤ tt) })
+  pub end_fits : SFits w64 End
+  end_fits = rw end (record { sfits = lt_of_lt_of_le (add-mag low (pos n) 131072 (2 ^ 16) (lt_of_le_of_lt (mag_abs low) a) l.fits) (lit≤ tt) })
 
-    pub from_low : le_z (to_z w64 (of_z w64 low)) (to_z w64 (of_z w64 x)) ≡ true → lt_z (to_z w64 (of_z w64 x)) (to_z w64 (of_z w64 End)) ≡ in_range low n x
-    unfolding in_range
-    from_low e = ap₂ lt_z (to_z-of_z g) (to_z-of_z end_fits ∙ end) ∙ ap (λ (t : Bool). t && lt_z x (low +ℤ pos n)) (test e)
+  pub contained : (x : ℤ) {low' x' : ℤ} → low' ≡ low → x' ≡ x → is_le (int_cmp low' x') && is_lt (int_cmp x' (to_z w64 (of_z w64 End))) ≡ in_range low n x
+  unfolding in_range
+  contained x {low'} {x'} i j =
+      ap₂ ◌&&◌ (at_most low' x' ∙ ap₂ le_z i j) (below-as (lt_z x' (to_z w64 (of_z w64 End))) _ ∙ ap₂ lt_z j (to_z-of_z end_fits ∙ end))

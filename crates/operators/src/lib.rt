@@ -40,9 +40,9 @@ fn divisor(magnitude: u16, how: u16) -> i32
     ensures { result ≡ numbered.divisor magnitude how }
 {
     if how % shapes::REMAINDER == shapes::NEGATIVE {
-        return -(magnitude as i32);
+        return -i32::from(magnitude);
     }
-    magnitude as i32
+    i32::from(magnitude)
 }
 
 // div and mod.
@@ -107,7 +107,7 @@ pub fn in_range(low: i64, n: u16, x: i64) -> bool
     requires { nat_abs low < 131072 }
     ensures { result ≡ numbered.in_range low n x }
 {
-    low <= x && x < low + i64::from(n)
+    (low..low + i64::from(n)).contains(&x)
 }
 
 pub fn compared(code: u16, x: i64, y: i64) -> bool
@@ -126,9 +126,8 @@ pub fn settles(code: u16, p: bool) -> bool
     ensures { result ≡ true → (q : Bool) → numbered.connected code p q ≡ numbered.connected code p false }
 {
     match code {
-        AND => !p,
+        AND | IMPLIES => !p,
         OR => p,
-        IMPLIES => !p,
         _ => false,
     }
 }

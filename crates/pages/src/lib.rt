@@ -32,6 +32,7 @@ pub struct Counts {
 }
 
 // A phrase, an operation, two numbers, and numbers of bindings.
+// Form 1: an item takes any number as its phrase (phrases/src/words.rt); an enum would narrow a public field.
 #[derive(Clone, Copy)]
 pub struct Item {
     pub phrase: usize,

@@ -114,18 +114,18 @@ module _ {s ν : List ℕ} where
 
   -- the body of a state
   pub state-made : {word i n e x m j k d y : ℕ} {a b c : List ℕ} (g : List ℕ) (t : Answer) → ((e ≡ i + 1) × (get_or s i 0 ≡ word)) × (x ≡ n) → Writes a n (node 5 i 0 0) b m → get_or s e 0 ≡ 2
-      → MadeAt s ν some_declarations e m b c j k → ((d ≡ j + 1) × (get_or s j 0 ≡ 45)) × (y ≡ k) → Made s ν (a_condition 44) d k c g t → Made s ν (a_state word) i n a g t
-  state-made {i = i} {n} {m = m} {a = a} {b} g (Ok f) p w q h r z =
+      → MadeAt s ν some_declarations e m b c j k → ((d ≡ j + 1) × (get_or s j 0 ≡ 45)) × (y ≡ k) → Made s ν (a_condition 44) d y c g t → Made s ν (a_state word) i n a g t
+  state-made {i = i} {n} {m = m} {a = a} {b} {c} g (Ok f) p w q h r z =
       record {
         nodes = node 5 i 0 0 ++ (h.nodes ++ z.nodes);
         derives = state p.0.1 (ap (λ (o : ℕ). get_or s o 0) (sym p.0.0) ∙ q) (from p.0.0 h.derives) r.0.1 (from r.0.0 z.derives);
-        written = then-written (take n a) (node 5 i 0 0) (h.nodes ++ z.nodes) w.nodes (then-written (take m b) h.nodes z.nodes h.written z.written);
+        written = then-written (take n a) (node 5 i 0 0) (h.nodes ++ z.nodes) w.nodes (then-written (take m b) h.nodes z.nodes h.written (z.written ∙ ap (λ (o : ℕ). take o c ++ z.nodes) r.1));
       }
   state-made g (Err f) p w q h r z = tt
 
   -- the body of an operation
   pub operation-made : {i n p m e k d y f l : ℕ} {a b c g : List ℕ} (o : List ℕ) (t : Answer) → get_or s i 0 ≡ 43 → get_or s (i + 1) 0 ≡ 2 → p ≡ name_code s ν (i + 1) → Writes a n (node 8 i p 0) b m
-      → MadeAt s ν some_parameters (i + 1 + 1) m b c e k → ((d ≡ e + 1) × (get_or s e 0 ≡ 38)) × (y ≡ k) → MadeAt s ν (a_condition 39) d k c g f l
+      → MadeAt s ν some_parameters (i + 1 + 1) m b c e k → ((d ≡ e + 1) × (get_or s e 0 ≡ 38)) × (y ≡ k) → MadeAt s ν (a_condition 39) d y c g f l
       → Made s ν (a_condition 44) f l g o t → More s ν some_operations i n a o t
   operation-made {i} {n} {m = m} {k = k} {a = a} {b} {c} end (Ok u) p q r w h x y z =
       let first : List ℕ = node 8 i (name_code s ν (i + 1)) 0 in
@@ -137,7 +137,7 @@ module _ {s ν : List ℕ} where
             ∙ sym (append_assoc first (h.nodes ++ (y.nodes ++ z.nodes)) o))
             (an_operation p q h.derives x.0.1 (from x.0.0 y.derives) z.derives g);
         written = then-written (take n a) first (h.nodes ++ (y.nodes ++ z.nodes)) (w.nodes ∙ ap (λ (b : ℕ). take n a ++ node 8 i b 0) r)
-            (then-written (take m b) h.nodes (y.nodes ++ z.nodes) h.written (then-written (take k c) y.nodes z.nodes y.written z.written));
+            (then-written (take m b) h.nodes (y.nodes ++ z.nodes) h.written (then-written (take k c) y.nodes z.nodes (y.written ∙ ap (λ (b : ℕ). take b c ++ y.nodes) x.1) z.written));
       }
   operation-made end (Err u) p q r w h x y z = tt
 
@@ -160,13 +160,13 @@ module _ {s ν : List ℕ} where
   sequence-onto ys c (Err k) h z = tt
 
 -- the body of ainit, cinit or retrieve
-pub where-made : {word e x d y : ℕ} (s ν : List ℕ) (i n : ℕ) (a b : List ℕ) (t : Answer) → ((e ≡ i + 1) × (get_or s i 0 ≡ word)) × (x ≡ n) → ((d ≡ e + 1) × (get_or s e 0 ≡ 45)) × (y ≡ n)
-    → Made s ν (a_condition 44) d n a b t → Made s ν (a_where word) i n a b t
+pub where-made : {word e x d y : ℕ} (s ν : List ℕ) (i n : ℕ) (a b : List ℕ) (t : Answer) → ((e ≡ i + 1) × (get_or s i 0 ≡ word)) × (x ≡ n) → ((d ≡ e + 1) × (get_or s e 0 ≡ 45)) × (y ≡ x)
+    → Made s ν (a_condition 44) d y a b t → Made s ν (a_where word) i n a b t
 where-made s ν i n a b (Ok f) p q z =
     record {
       nodes = z.nodes;
       derives = where_of p.0.1 (ap (λ (o : ℕ). get_or s o 0) (sym p.0.0) ∙ q.0.1) (from (q.0.0 ∙ ap (λ (o : ℕ). o + 1) p.0.0) z.derives);
-      written = z.written;
+      written = z.written ∙ ap (λ (o : ℕ). take o a ++ z.nodes) (q.1 ∙ p.1);
     }
 where-made s ν i n a b (Err f) p q z = tt
 

@@ -1,20 +1,14 @@
 -- Items of a dossier's nodes are passed over, one by one, by the code.
 use Rattle.std.specs.Prelude.{Some, None}
 use Rattle.std.specs.Prelude as prelude
-use mathlib.Core.Path.{◌≡◌, refl, sym, ap, ap₂, ◌∙◌, subst, subst₂}
+use mathlib.Core.Path.{◌≡◌, refl, sym, ap, ◌∙◌, subst, subst₂}
 use mathlib.Core.List.{List}
 use Prim.Native.Nat.{ℕ, ◌+◌, ◌≤◌, ◌<◌}
 use native.Mathlib.Omega.{arith}
-use mathlib.Core.Bool.{Bool, true, false, ◌&&◌, cond, false≢true, true≢false}
-use borrow.Author.Tests.{le-leb, lt-leb, leb-true, ne_eqb}
-use lib.Dec.{leb}
+use borrow.Author.Tests.{ne_eqb}
 use lib.ListN.{take, get_or}
 use lib.Seq.{get_or-take}
-use Rattle.std.specs.Cmp.{ranks}
-use Rattle.std.specs.Ordering.{is_le, is_lt, nat_cmp, MatchOrdering}
-use Rattle.std.specs.declared.cmp.Ordering.{Ordering}
-use Rattle.std.specs.declared.cmp.Ordering.TheVariants.{Less, Equal, Greater}
-use Rattle.parser.specs.Sections.{Part, size_of, size_at, In, Inside, Run, stops, passes, StateAt}
+use Rattle.parser.specs.Sections.{Part, size_of, size_at, In, Run, stops, passes, StateAt}
 use Rattle.parser.specs.Sections.{Compares, fits, extra, wants, differs, agrees}
 
 pub part_is : (a : List ℕ) (at m k r : ℕ) → k ≤ 3 → r ≡ get_or a (at + k) 0 → Part a at m k r
@@ -35,40 +29,6 @@ size-other k n f g = rw (size_of, ne_eqb k 6 f, ne_eqb k 7 g) refl
 pub skipped : (a : List ℕ) (m at shape count size : ℕ) → at + 4 ≤ m → Part a at m 3 shape → Part a at m 1 count → size ≡ size_of shape count → size ≡ size_at (take m a) at
 unfolding size_at
 skipped a m at shape count size l p q e = e ∙ (let x = p l in let y = q l in cc)
-
--- what a range's `contains` answers
-at_most : (x y : ℕ) (r : Ordering) → MatchOrdering r (x < y) (x ≡ y) (y < x) → is_le r ≡ leb x y
-at_most x y Less h = sym (le-leb x y (omega arith))
-at_most x y Equal h = sym (le-leb x y (omega arith))
-at_most x y Greater h = sym (lt-leb x y h)
-
-ranged : (x low high : ℕ) (past : Bool) → past ≡ false → is_le (nat_cmp low x) && cond past (is_lt (nat_cmp x high)) (is_le (nat_cmp x high)) ≡ leb low x && leb x high
-ranged x low high past f =
-    ap (λ (p : Bool). is_le (nat_cmp low x) && cond p (is_lt (nat_cmp x high)) (is_le (nat_cmp x high))) f
-    ∙ ap₂ ◌&&◌ (at_most low x (nat_cmp low x) (ranks low x)) (at_most x high (nat_cmp x high) (ranks x high))
-
-both_yes : (a b : Bool) → a && b ≡ true → (a ≡ true) × (b ≡ true)
-both_yes true b e = (refl, e)
-both_yes false b e = absurd (false≢true e)
-
-not_both : (a b : Bool) → a && b ≡ false → a ≡ true → b ≡ true → ⊥
-not_both true b e p q = true≢false (sym q ∙ e)
-not_both false b e p q = false≢true p
-
-inside_is : (a : List ℕ) (m low high at x : ℕ) → at + 4 ≤ m → Part a at m 3 x → (r : Bool) → r ≡ leb low x && leb x high → Inside a m low high at r
-inside_is a m low high at x l p r q =
-    record {
-      holds = λ e. let w = both_yes (leb low x) (leb x high) (sym q ∙ e) in let y = p l in
-          record { room = l; lower = omega (arith, leb-true low x w.0); upper = omega (arith, leb-true x high w.1) };
-      fails = λ e i. let y = p l in let v = i.lower in let u = i.upper in
-          not_both (leb low x) (leb x high) (sym q ∙ e) (le-leb low x (omega arith)) (le-leb x high (omega arith));
-    }
-
--- the answer of a range's `contains` at the shape that stands there
-pub inside_range : (a : List ℕ) (m low high at x : ℕ) → at + 4 ≤ m → Part a at m 3 x → (from to : ℕ) (past : Bool) → from ≡ low → to ≡ high → past ≡ false
-    → (r : Bool) → r ≡ is_le (nat_cmp from x) && cond past (is_lt (nat_cmp x to)) (is_le (nat_cmp x to)) → Inside a m low high at r
-inside_range a m low high at x l p from to past f t n r q =
-    inside_is a m low high at x l p r (q ∙ ranged x from to past n ∙ ap₂ (λ (i j : ℕ). leb i x && leb x j) f t)
 
 pub run_on : {t : List ℕ} {m low high i e : ℕ} → Run t m low high i e → In t m low high i → (i + size_at t i ≤ m) × Run t m low high (i + size_at t i) e
 run_on (stops f) h = absurd (f h)

@@ -5,7 +5,6 @@ ghost use Rattle.std.specs.Prelude.{◌≡◌, get_or};
 ghost use Rattle.parser.specs.Promises.{Parses};
 
 use crate::bodies::dossier;
-use crate::copies::copy_nodes;
 use crate::headings::headings;
 use crate::sections::Nodes;
 use form::node::NUMBERS;
@@ -15,7 +14,6 @@ use refusals::Fault;
 use symbols::scan;
 
 mod bodies;
-mod copies;
 mod headings;
 pub mod sections;
 
@@ -51,7 +49,7 @@ pub fn parse(
         end: read.count,
     };
     headings(&found, n).map_err(|f| located(f, starts, text.len()))?;
-    copy_nodes(&made, nodes, read.count);
+    nodes[..read.count].copy_from_slice(&made[..read.count]);
     Ok(Structure {
         symbols: n,
         numbers: read.count,

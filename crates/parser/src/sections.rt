@@ -1,4 +1,5 @@
 // Where the parts of a dossier begin among its nodes (form/specs/Codes.antt).
+// Form 5: the shapes from `low` to `high` go as two numbers: of a `RangeInclusive` `inside`, `run` and `compare` would have to ask that it is not spent.
 ghost use Rattle.std.specs.Prelude.{◌≡◌, ◌≤◌, ◌<◌};
 ghost use Rattle.parser.specs.Sections.{Part, Sized, Skips, Inside, RunsTo, Behind, Sectioned};
 
@@ -31,18 +32,17 @@ pub struct Bounds {
 fn item(shape: u16, count: u16) -> usize
     ensures { Sized shape count result }
 {
-    if shape == DECLARED {
-        return node::DECLARATION;
+    match shape {
+        DECLARED => node::DECLARATION,
+        PREDICATE => node::SIZE + usize::from(count),
+        _ => node::SIZE,
     }
-    if shape == PREDICATE {
-        return node::SIZE + usize::from(count);
-    }
-    node::SIZE
 }
 
 impl Nodes<'_> {
     // A number of the node at a place.
-    // Form 1: where no node can stand it is 0, no node's shape, as `Part` of specs/Sections.antt says; with an Option each test would compare with `Some(..)`.
+    // Form 1: where no node can stand it is 0, no node's shape, as `Part` of specs/Sections.antt says; with an Option five of the eight calls (three places, a shape, a
+    // count) would say what stands for `None`, 0 as here, and `inside` would take `is_some_and`.
     pub(crate) fn part(&self, at: usize, k: usize) -> u16
         requires { k ≤ 3 }
         ensures { Part self.now.numbers.now at self.now.end k result }
@@ -57,24 +57,17 @@ impl Nodes<'_> {
     pub fn skip(&self, at: usize) -> usize
         ensures { Skips self.now.numbers.now self.now.end at result }
     {
-        let left = self.end.saturating_sub(at);
         let shape = self.part(at, node::SHAPE);
         let count = self.part(at, node::A);
-        let size = item(shape, count);
-        if left < size {
-            return self.end;
-        }
-        at + size
+        at.saturating_add(item(shape, count)).min(self.end)
     }
 
     // Does an item of one of the shapes low to high stand at a place?
     fn inside(&self, at: usize, low: u16, high: u16) -> bool
         ensures { Inside self.now.numbers.now self.now.end low high at result }
     {
-        if self.end.saturating_sub(at) < node::SIZE {
-            return false;
-        }
-        (low..=high).contains(&self.part(at, node::SHAPE))
+        node::SIZE <= self.end.saturating_sub(at)
+            && (low..=high).contains(&self.part(at, node::SHAPE))
     }
 
     // The place behind the items of the shapes low to high that stand at a place; the end where none stands there.

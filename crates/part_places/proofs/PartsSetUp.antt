@@ -9,9 +9,9 @@ use Rattle.form.specs.Tree.{Operation, Dossier}
 use Rattle.static_rules.specs.Scope.{unprimed, inputs, outputs}
 use Rattle.meaning.proofs.Places.{below-entry}
 use Rattle.plans.specs.declared.Part.{Part}
-use Rattle.part_setup.specs.SetupPromises.{StatesAsked, StatesSet, OperationAsked, OperationSet, OpeningCounts, OpeningPartAsked, OpeningPartIs}
-use Rattle.part_setup.specs.SetupPromises.{OperationCounts, OperationPartAsked, ApplicabilityPartIs, CorrectnessPartIs}
-use Rattle.parts.proofs.SetupLaws.{counted}
+use Rattle.part_setup.specs.SetupPromises.{StatesAsked, StatesSet, OperationAsked, OperationSet, OpeningCounts, OpeningPartIs}
+use Rattle.part_setup.specs.SetupPromises.{OperationCounts, ApplicabilityPartIs, CorrectnessPartIs}
+use Rattle.part_setup.proofs.AskedParts as part
 use Rattle.part_places.specs.Places.{GroupsOf, PartAsked, PartSet}
 
 module _ {table groups : List ℕ} {d : Dossier} (G : GroupsOf table groups d) where
@@ -19,23 +19,11 @@ module _ {table groups : List ℕ} {d : Dossier} (G : GroupsOf table groups d) w
   states = record { abstractly = unprimed d d.abstract; concretely = unprimed d d.concrete; abstracts = G.abstracts; concretes = G.concretes }
 
   opening-counts : {cells : List ℕ} → StatesSet table groups cells → OpeningCounts groups cells (unprimed d d.abstract) (unprimed d d.concrete)
-  opening-counts s = record {
-    cells_are = s.made (unprimed d d.abstract) (unprimed d d.concrete) G.abstracts G.concretes;
-    abstracts = counted G.abstracts;
-    concretes = counted G.concretes;
-  }
+  opening-counts s = part.opening-counts G.abstracts G.concretes s
 
-  module _ (j : ℕ) (op : Operation) (listed : get_elem? d.operations j ≡ some op) where
-    operation-counts : {cells : List ℕ} → OperationSet table groups (18 + 8 * j) cells
-        → OperationCounts groups (18 + 8 * j) cells (unprimed d d.abstract) (unprimed d d.concrete) (inputs d op) (outputs d op)
-    operation-counts s = record {
-      cells_are = s.made (unprimed d d.abstract) (unprimed d d.concrete) (inputs d op) (outputs d op) G.abstracts G.concretes
-          (G.inputs_at j op listed) (G.outputs_at j op listed);
-      abstracts = counted G.abstracts;
-      concretes = counted G.concretes;
-      inputs = counted (G.inputs_at j op listed);
-      outputs = counted (G.outputs_at j op listed);
-    }
+  operation-counts : (j : ℕ) (op : Operation) → get_elem? d.operations j ≡ some op → {cells : List ℕ} → OperationSet table groups (18 + 8 * j) cells
+      → OperationCounts groups (18 + 8 * j) cells (unprimed d d.abstract) (unprimed d d.concrete) (inputs d op) (outputs d op)
+  operation-counts j op listed s = part.operation-counts G.abstracts G.concretes (G.inputs_at j op listed) (G.outputs_at j op listed) s
 
 -- ---- asked
 
@@ -43,42 +31,17 @@ module _ {table groups : List ℕ} {k : ℕ} (a : PartAsked table groups k) wher
   pub states-asked : StatesAsked table groups
   states-asked = states a.groups_are
 
-  pub opening-part-asked : {cells : List ℕ} → StatesSet table groups cells → OpeningPartAsked groups cells
-  opening-part-asked s = record {
-    abstractly = unprimed a.dossier a.dossier.abstract;
-    concretely = unprimed a.dossier a.dossier.concrete;
-    counts = opening-counts a.groups_are s;
-  }
-
   module _ (j : ℕ) (h : j < length a.dossier.operations) where
-    listed-operation : (op : Operation) × (get_elem? a.dossier.operations j ≡ some op)
-    listed-operation = below-entry a.dossier.operations j h
-
-    pub operation-low : j < 16
-    operation-low = omega (arith, a.groups_are.operations)
-
     pub operation-asked : OperationAsked table groups (18 + 8 * j)
     operation-asked =
-        let t = listed-operation in
+        let t : (op : Operation) × (get_elem? a.dossier.operations j ≡ some op) = below-entry a.dossier.operations j h in
         record {
           states = states-asked;
           inward = inputs a.dossier t.0;
           outward = outputs a.dossier t.0;
-          row_low = omega (arith, operation-low);
+          row_low = omega (arith, a.groups_are.operations);
           inputs = a.groups_are.inputs_at j t.0 t.1;
           outputs = a.groups_are.outputs_at j t.0 t.1;
-        }
-
-    pub operation-part-asked : {cells : List ℕ} → OperationSet table groups (18 + 8 * j) cells → OperationPartAsked groups (18 + 8 * j) cells
-    operation-part-asked s =
-        let t = listed-operation in
-        record {
-          abstractly = unprimed a.dossier a.dossier.abstract;
-          concretely = unprimed a.dossier a.dossier.concrete;
-          inward = inputs a.dossier t.0;
-          outward = outputs a.dossier t.0;
-          row_low = omega (arith, operation-low);
-          counts = operation-counts a.groups_are j t.0 t.1 s;
         }
 
   -- its operation is one of the dossier's

@@ -1,16 +1,12 @@
 // The parts of a check by their places: how many places each has, and all of them; the part of a place.
 #![tactic(auto)]
 
-ghost use Rattle.std.specs.Prelude.{◌≡◌, ◌+◌, ◌*◌, ◌<◌, ◌≤◌};
 ghost use Rattle.part_setup.specs.SetupPromises.{Blank};
 ghost use Rattle.part_places.specs.Places.{PartAsked, PartSet, SizeIs, AllAsked, TotalIs, PlaceAsked, PlaceFound};
 
 pub use held_checks::OBLIGATIONS;
 use held_checks::{OPENING, Obligation, obligation_of};
-use part_setup::{
-    OPERATION_ROW, OPERATION_ROWS, applicability_part, correctness_part, opening_cells,
-    opening_part, operation_cells, places,
-};
+use part_setup::{applicability, correctness, opening, places};
 use plans::Part;
 use search_groups::Dossier;
 use slot_carriers::CELLS;
@@ -23,29 +19,17 @@ pub struct Found {
 }
 
 // The cells of the k-th part, and its sizes.
-// Form 5: the cells are lent blank. Made in here and given back beside the part, their 36,864 bytes are copied for each part: that was tried, and misses the
-// bar, which is the time of the lent cells: the report of a small dossier took 1.02 to 1.18 of it (these sources as plain Rust, 1,500 reports of BASE and of
-// `early`, 64 and 129 microseconds each).
+// Form 2: `parts::ready::set_part` is the same match, where each part gets its plan too: over this one it would match a second time for the plans.
+// Form 5: the cells are lent blank, as to the three functions of `part_setup`.
 pub fn part_cells(d: &Dossier<'_>, k: usize, cells: &mut [u32; CELLS]) -> Part
     requires part_asked { PartAsked d.now.table.now d.now.groups.now k }
     requires blank { Blank cells.old }
     ensures { PartSet d.now.table.now d.now.groups.now k cells.new result }
 {
     match obligation_of(k) {
-        Obligation::Initialisation => {
-            opening_cells(d, cells);
-            opening_part(d, cells)
-        }
-        Obligation::Applicability(j) => {
-            let row = OPERATION_ROWS + OPERATION_ROW * j;
-            operation_cells(d, row, cells);
-            applicability_part(d, row, cells)
-        }
-        Obligation::Correctness(j) => {
-            let row = OPERATION_ROWS + OPERATION_ROW * j;
-            operation_cells(d, row, cells);
-            correctness_part(d, row, cells)
-        }
+        Obligation::Initialisation => opening(d, cells),
+        Obligation::Applicability(j) => applicability(d, j, cells),
+        Obligation::Correctness(j) => correctness(d, j, cells),
     }
 }
 
@@ -73,6 +57,8 @@ pub fn total(d: &Dossier<'_>) -> usize
 }
 
 // The part of a place, and its place there.
+// Form 1: the place is one of the order (`PlaceAsked`), so that the number behind the last part is never answered; an Option would give three of the four calls (two in `checker`, one in
+// `reports`) a case that cannot be.
 pub fn find(d: &Dossier<'_>, place: usize) -> Found
     requires { PlaceAsked d.now.table.now d.now.groups.now d.now.operations place }
     ensures { PlaceFound d.now.table.now d.now.groups.now d.now.operations place result.part result.at }

@@ -1,7 +1,7 @@
 -- The nest of an operation's applicability: its searches find the related states at which the abstract precondition holds, and for each a concrete step.
 -- stands once for each part: the five lines of the premises, here and in CorrectnessNest. One law for both would make a `Nest` of them and of its twelve other fields, as arguments.
-use mathlib.Core.Path.{◌≡◌, refl, sym, ◌∙◌}
-use mathlib.Core.Bool.{true, false, true≢false}
+use mathlib.Core.Path.{◌≡◌, refl, sym, subst}
+use mathlib.Core.Bool.{true}
 use mathlib.Core.List.{List, []}
 use Prim.Native.Nat.{ℕ}
 use native.Mathlib.Omega.{arith}
@@ -11,8 +11,9 @@ use Rattle.static_rules.specs.Scope.{unprimed, inputs, outputs}
 use Rattle.part_tests.specs.PointsPoints.{Point}
 use Rattle.part_tests.specs.PointsSearches.{SearchOf}
 use Rattle.part_tests.specs.PlansPart.{Part}
+use Rattle.part_tests.specs.PlansConclusions.{OfState}
 use Rattle.part_tests.specs.PlansPlanPromises.{ApplicabilityPlan}
-use Rattle.part_tests.specs.NestStepsNestPromises.{Groups, Sized, Nest}
+use Rattle.part_tests.specs.NestStepsNestPromises.{Groups, DependsOn, Sized, Nest}
 use Rattle.part_tests.specs.PartGroups.{applicability_groups}
 use Rattle.part_tests.specs.PartsByNumber.{applicability_tests}
 use Rattle.part_searches.proofs.SearchPlans.{none-asked, search_of}
@@ -42,7 +43,8 @@ module _ {table rows firsts groups cells plan : List ℕ} {d : Dossier} {op : Op
   no_steps : SearchOf table plan cells 3 [] (λ (δ : Point). true)
   no_steps = search_of {see = Anywhere} none-asked none-asked none-asked N.steps (no_variables (omega arith))
 
-  pub applicability-nest : {p : Part} → p.primed ≡ false → Sized cells p (applicability_of d op) → Nest table plan cells p (applicability_of d op) (applicability_tests d op)
+  pub applicability-nest : {p : Part} → p.conclusion ≡ OfState → Sized cells p (applicability_of d op) → Nest table plan cells p (applicability_of d op) (applicability_tests d op)
+  unfolding DependsOn
   applicability-nest u z =
       let a = (small X).abstracts in
       let c = (small X).concretes in
@@ -59,8 +61,7 @@ module _ {table rows firsts groups cells plan : List ℕ} {d : Dossier} {op : Op
         meetly = stepping_at X;
         met = steps_search X (omega arith) N.met;
         met_is = some-step X;
-        met_primed = λ e. absurd (true≢false (sym e ∙ u));
-        met_plain = λ e a b c i o q k l. refl;
+        depends = subst (λ k. DependsOn k (applicability_tests d op)) (sym u) (λ a b c i o q k l. refl);
         apart_abstracts = run-apart
             (outside-append (outside-run 8 vc (λ s h k l m. omega arith))
             (outside-append (outside-run 16 vi (λ s h k l m. omega arith))

@@ -1,7 +1,7 @@
 -- The nest of an operation's correctness: its searches find the concrete steps from related states at which the abstract precondition holds, and for each an abstract step to a
 -- related state.
-use mathlib.Core.Path.{◌≡◌, refl, sym, ap₂, ◌∙◌}
-use mathlib.Core.Bool.{Bool, true, true≢false}
+use mathlib.Core.Path.{◌≡◌, refl, sym, subst, ap₂, ◌∙◌}
+use mathlib.Core.Bool.{Bool}
 use mathlib.Core.List.{List}
 use Prim.Native.Nat.{ℕ, ◌+◌, ◌≤◌}
 use native.Mathlib.Omega.{arith}
@@ -14,8 +14,9 @@ use Rattle.part_tests.specs.PointsPoints.{Point, number_of, Tame}
 use Rattle.part_tests.specs.PointsSearches.{SearchOf}
 use Rattle.part_tests.proofs.PointsPointNumbers.{number-apart}
 use Rattle.part_tests.specs.PlansPart.{Part}
+use Rattle.part_tests.specs.PlansConclusions.{OfStep}
 use Rattle.part_tests.specs.PlansPlanPromises.{CorrectnessPlan}
-use Rattle.part_tests.specs.NestStepsNestPromises.{Groups, some_binding, Sized, Nest}
+use Rattle.part_tests.specs.NestStepsNestPromises.{Groups, DependsOn, some_binding, Sized, Nest}
 use Rattle.part_tests.specs.PartGroups.{correctness_groups}
 use Rattle.part_tests.specs.PartsByNumber.{abstract_at, match, correctness_tests}
 use Rattle.part_searches.proofs.SearchPlans.{search_of}
@@ -83,7 +84,8 @@ module _ {table rows firsts groups cells plan : List ℕ} {d : Dossier} {op : Op
       (number-apart cells (output_group d op) (abstract_after_group d) δ ε (run-apart (before-after 19 vo (omega arith))) b)
       (number-apart cells (concrete_after_group d) (abstract_after_group d) δ ε (run-apart (before-after 22 vc (omega arith))) b))
 
-  pub correctness-nest : {p : Part} → p.primed ≡ true → Sized cells p (correctness_of d op) → Nest table plan cells p (correctness_of d op) (correctness_tests d op (front_at X))
+  pub correctness-nest : {p : Part} → p.conclusion ≡ OfStep → Sized cells p (correctness_of d op) → Nest table plan cells p (correctness_of d op) (correctness_tests d op (front_at X))
+  unfolding DependsOn
   correctness-nest u z =
       let a = (small X).abstracts in
       let c = (small X).concretes in
@@ -101,8 +103,7 @@ module _ {table rows firsts groups cells plan : List ℕ} {d : Dossier} {op : Op
         meetly = λ δ. matching δ δ;
         met = met;
         met_is = met_is;
-        met_primed = λ e a c d i o k. refl;
-        met_plain = λ e. absurd (true≢false (sym u ∙ e));
+        depends = subst (λ k. DependsOn k (correctness_tests d op (front_at X))) (sym u) (λ a c d i o k. refl);
         apart_abstracts = run-apart
             (outside-append (outside-run 8 vc (λ s h k l m. omega arith))
             (outside-append (outside-run 16 vi (λ s h k l m. omega arith))

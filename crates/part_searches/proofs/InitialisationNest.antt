@@ -1,6 +1,6 @@
 -- The nest of the initialisation part: its searches find the concrete initial states, and for each an abstract initial state that is related.
-use mathlib.Core.Path.{◌≡◌, refl, sym, ap, ◌∙◌}
-use mathlib.Core.Bool.{Bool, true, false, true≢false, ◌&&◌}
+use mathlib.Core.Path.{◌≡◌, refl, sym, ap, subst}
+use mathlib.Core.Bool.{Bool, true, ◌&&◌}
 use mathlib.Core.List.{List, []}
 use Prim.Native.Nat.{ℕ, ◌≤◌}
 use native.Mathlib.Omega.{arith}
@@ -14,8 +14,9 @@ use Rattle.part_tests.specs.PointsPoints.{Point, span, number_of, Tame, Apart}
 use Rattle.part_tests.specs.PointsSearches.{SearchOf}
 use Rattle.part_tests.proofs.PointsPointNumbers.{number-apart}
 use Rattle.part_tests.specs.PlansPart.{Part}
+use Rattle.part_tests.specs.PlansConclusions.{OfState}
 use Rattle.part_tests.specs.PlansPlanPromises.{InitialisationPlan}
-use Rattle.part_tests.specs.NestStepsNestPromises.{Groups, some_binding, Sized, Nest}
+use Rattle.part_tests.specs.NestStepsNestPromises.{Groups, DependsOn, some_binding, Sized, Nest}
 use Rattle.part_tests.specs.PartGroups.{opening_groups}
 use Rattle.part_tests.specs.PartsByNumber.{abstract_at, concrete_at, initial, initial_match, initialisation_tests}
 use Rattle.part_searches.specs.PartCells.{StatesCelled}
@@ -81,8 +82,8 @@ module _ {table rows firsts groups plan cells : List ℕ} {d : Dossier} (R : Rea
       some-group cells 0 (unprimed d d.abstract) C.abstracts meetly δ t (initial_match d (number_of cells (concrete_group d) δ))
       (λ ε u b. ap (λ (c : ℕ). initial_match d c (abstract_at d (number_of cells (abstract_group d) ε))) (number-apart cells (concrete_group d) (abstract_group d) δ ε concretes-apart b))
 
-  pub initialisation-nest : {p : Part} → p.primed ≡ false → Sized cells p (initialisation_groups d) → Nest table plan cells p (initialisation_groups d) (initialisation_tests d)
-  unfolding some_binding any upward span
+  pub initialisation-nest : {p : Part} → p.conclusion ≡ OfState → Sized cells p (initialisation_groups d) → Nest table plan cells p (initialisation_groups d) (initialisation_tests d)
+  unfolding some_binding any upward span DependsOn
   initialisation-nest u z = record {
     sized = z;
     states = states;
@@ -95,8 +96,7 @@ module _ {table rows firsts groups plan cells : List ℕ} {d : Dossier} (R : Rea
     meetly = meetly;
     met = met;
     met_is = met_is;
-    met_primed = λ e. absurd (true≢false (sym e ∙ u));
-    met_plain = λ e a b c i o q k l. refl;
+    depends = subst (λ k. DependsOn k (initialisation_tests d)) (sym u) (λ a b c i o q k l. refl);
     apart_abstracts = none_apart;
     apart_concretes = concretes-apart;
     apart_inputs = none_apart;

@@ -1,10 +1,12 @@
 -- How many variables and bindings the groups of a part have, read from the groups' rows and the cells; and that the sizes of a part are those. Assumes nothing.
-use mathlib.Core.Bool.{true, false}
 use mathlib.Core.List.{List}
 use Prim.Native.Nat.{ℕ, ◌+◌, ◌*◌, ◌≤◌}
 use native.Mathlib.Nat.{mul-le-mul}
 use Rattle.plans.specs.declared.Part.{Part}
-use Rattle.part_setup.specs.SetupPromises.{ApplicabilityPartIs, CorrectnessPartIs, FewPlaces, places}
+use Rattle.plans.specs.declared.Conclusion.TheVariants.{OfState, OfStep}
+use Rattle.part_tests.specs.NestStepsPartTests.{places}
+use Rattle.part_tests.specs.PartGroups.{no_variables}
+use Rattle.part_setup.specs.SetupPromises.{ApplicabilityPartIs, CorrectnessPartIs, FewPlaces}
 use Rattle.part_setup.specs.SetupSteps.{SizesOf, SizesAre}
 use Rattle.part_setup.specs.declared.Sizes.{Sizes}
 
@@ -17,11 +19,11 @@ module _ (groups : List ℕ) (row : ℕ) (cells : List ℕ) (r : Sizes) (w : Siz
         abstracts = r.abstracts;
         concretes = r.concretes;
         inputs = r.inputs;
-        outputs = record { variables = 0; bindings = 1 };
-        primes = record { variables = 0; bindings = 1 };
+        outputs = no_variables;
+        primes = no_variables;
         readying = record { variables = r.outputs.variables + r.abstracts.variables; bindings = r.outputs.bindings * r.abstracts.bindings };
         meeting = record { variables = r.outputs.variables + r.concretes.variables; bindings = r.outputs.bindings * r.concretes.bindings };
-        primed = false;
+        conclusion = OfState;
       }
   applicability-is =
       record {
@@ -29,14 +31,14 @@ module _ (groups : List ℕ) (row : ℕ) (cells : List ℕ) (r : Sizes) (w : Siz
             let s : SizesOf us cs is os r = w.is us cs is os k in
             λ i.
             record {
-              abstracts = record { variables = s.va i; bindings = s.na i };
-              concretes = record { variables = s.vc i; bindings = s.nc i };
-              inputs = record { variables = s.vi i; bindings = s.ni i };
-              outputs = record { variables = 0; bindings = 1 };
-              primes = record { variables = 0; bindings = 1 };
-              readying = record { variables = s.vo i + s.va i; bindings = s.nq i * s.na i };
-              meeting = record { variables = s.vo i + s.vc i; bindings = s.nq i * s.nc i };
-              primed = false;
+              abstracts = s.abstracts i;
+              concretes = s.concretes i;
+              inputs = s.inputs i;
+              outputs = no_variables;
+              primes = no_variables;
+              readying = record { variables = (s.outputs i).variables + (s.abstracts i).variables; bindings = (s.outputs i).bindings * (s.abstracts i).bindings };
+              meeting = record { variables = (s.outputs i).variables + (s.concretes i).variables; bindings = (s.outputs i).bindings * (s.concretes i).bindings };
+              conclusion = OfState;
             };
       }
 
@@ -50,7 +52,7 @@ module _ (groups : List ℕ) (row : ℕ) (cells : List ℕ) (r : Sizes) (w : Siz
         primes = r.concretes;
         readying = record { variables = r.outputs.variables + r.abstracts.variables; bindings = r.outputs.bindings * r.abstracts.bindings };
         meeting = r.abstracts;
-        primed = true;
+        conclusion = OfStep;
       }
   correctness-is =
       record {
@@ -58,14 +60,14 @@ module _ (groups : List ℕ) (row : ℕ) (cells : List ℕ) (r : Sizes) (w : Siz
             let s : SizesOf us cs is os r = w.is us cs is os k in
             λ i.
             record {
-              abstracts = record { variables = s.va i; bindings = s.na i };
-              concretes = record { variables = s.vc i; bindings = s.nc i };
-              inputs = record { variables = s.vi i; bindings = s.ni i };
-              outputs = record { variables = s.vo i; bindings = s.nq i };
-              primes = record { variables = s.vc i; bindings = s.nc i };
-              readying = record { variables = s.vo i + s.va i; bindings = s.nq i * s.na i };
-              meeting = record { variables = s.va i; bindings = s.na i };
-              primed = true;
+              abstracts = s.abstracts i;
+              concretes = s.concretes i;
+              inputs = s.inputs i;
+              outputs = s.outputs i;
+              primes = s.concretes i;
+              readying = record { variables = (s.outputs i).variables + (s.abstracts i).variables; bindings = (s.outputs i).bindings * (s.abstracts i).bindings };
+              meeting = s.abstracts i;
+              conclusion = OfStep;
             };
       }
 

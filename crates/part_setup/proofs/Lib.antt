@@ -3,6 +3,7 @@ pub mod SetLists
 pub mod FirstValues
 pub mod StatesMade
 pub mod GroupSizes
+pub mod AskedParts
 -- what crates above name of crates below
 pub use Rattle.part_tests.proofs.LookedChecks as PartTestsLookedChecks
 pub use Rattle.part_tests.proofs.PartPlaces as PartTestsPartPlaces

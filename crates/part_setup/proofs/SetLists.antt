@@ -11,7 +11,7 @@ use Rattle.slot_carriers.specs.CellGroups.{CellsOf}
 use Rattle.slot_carriers.specs.TypeNodes.{ListBetween}
 use Rattle.slot_carriers.specs.DeclaredGroups.{Declared, CellsMade, Copied}
 use Rattle.slot_carriers.proofs.Halving.{either}
-use Rattle.slot_carriers.proofs.KeptCells.{SameCell, same-between, cells-again, copied-cells, beside-made, kept-cells}
+use Rattle.slot_carriers.proofs.KeptCells.{SameCell, same-between, cells-again, copied-cell, copied-cells, beside-made, kept-cells}
 use Rattle.readings.specs.Readings.{GroupAt}
 use Rattle.part_setup.specs.SetupPromises.{Blank, FirstValues}
 use Rattle.part_setup.specs.SetupSteps.{ListsBelow}
@@ -80,30 +80,8 @@ module _ (n base to : ℕ) (old new : List ℕ) (c : Copied n base to old new) (
         list = λ i k l. c.others.above i (omega arith);
       }
 
-  number : (j i : ℕ) → j < n → i < 4 → get_or new (4 * (to + j) + i) 0 ≡ get_or old (4 * (base + j) + i) 0
-  number j i h k =
-      let p : 4 * to + (4 * j + i) ≡ 4 * (to + j) + i = omega arith in
-      let q : 4 * base + (4 * j + i) ≡ 4 * (base + j) + i = omega arith in
-      subst (λ (m : ℕ). get_or new m 0 ≡ get_or old (4 * (base + j) + i) 0) p
-      (subst (λ (m : ℕ). get_or new (4 * to + (4 * j + i)) 0 ≡ get_or old m 0) q (c.each (4 * j + i) (omega arith)))
-
   copied-between : (j : ℕ) → j < n → ListBetween new (to + j) 256 r
-  copied-between j h = same-between old (base + j) new (to + j) 256 r (omega arith) same (w.each (base + j) (omega arith)) 256 r (omega arith) (omega arith)
-    where
-      first-number : count_in new (to + j) ≡ count_in old (base + j)
-      first-number =
-          let p : 4 * (to + j) + 0 ≡ 4 * (to + j) = omega arith in
-          let q : 4 * (base + j) + 0 ≡ 4 * (base + j) = omega arith in
-          subst (λ (m : ℕ). get_or new m 0 ≡ get_or old (4 * (base + j)) 0) p (subst (λ (m : ℕ). get_or new (4 * (to + j) + 0) 0 ≡ get_or old m 0) q (number j 0 h (omega arith)))
-
-      same : SameCell old (base + j) new (to + j) 256 r
-      same =
-          record {
-            count = first-number;
-            shape = number j 1 h (omega arith);
-            first = number j 2 h (omega arith);
-            list = λ i k l. c.others.above i (omega arith);
-          }
+  copied-between j h = same-between old (base + j) new (to + j) 256 r (omega arith) (copied-cell n base to r old new fit c j h) (w.each (base + j) (omega arith)) 256 r (omega arith) (omega arith)
 
   copy_at : (s : ℕ) → s < 64 → (s < to) ⊎ (to ≤ s) → (s < to + n) ⊎ (to + n ≤ s) → ListBetween new s 256 r
   copy_at s h (inl g) k = same-between old s new s 256 r h (untouched s h (inl g)) (w.each s h) 256 r (omega arith) (omega arith)

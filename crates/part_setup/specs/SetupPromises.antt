@@ -1,5 +1,5 @@
 -- What the functions that set up a part ask and promise: cells of its variables, sizes, first values. Nothing here need be believed.
-use Rattle.std.specs.Prelude.{◌≡◌, List, ℕ, ◌+◌, ◌*◌, ◌<◌, ◌≤◌, get_or, length, ℤ}
+use Rattle.std.specs.Prelude.{◌≡◌, List, ℕ, ◌+◌, ◌<◌, ◌≤◌, get_or, length, ℤ}
 use Rattle.static_rules.specs.Carriers.{Variable}
 use Rattle.static_rules.specs.Limits.{binding_count}
 use Rattle.slot_carriers.specs.Cells.{Reached}
@@ -84,11 +84,7 @@ pub record ApplicabilityPartIs (groups : List ℕ) (row : ℕ) (cells : List ℕ
 pub record CorrectnessPartIs (groups : List ℕ) (row : ℕ) (cells : List ℕ) (r : Part) : Type 0 where
   pub is : (us cs is os : List Variable) → OperationCounts groups row cells us cs is os → r ≡ correctness_part us cs is os
 
--- how many places a part has: the bindings of its groups, one of each
-abbrev pub places : Part → ℕ
-places p = p.abstracts.bindings * p.concretes.bindings * p.inputs.bindings * p.outputs.bindings * p.primes.bindings
-
--- each of its groups has few
+-- each group that a part goes over has few bindings
 pub record FewPlaces (p : Part) : Type 0 where
   pub few_a : p.abstracts.bindings ≤ 4096
   pub few_c : p.concretes.bindings ≤ 4096

@@ -1,10 +1,12 @@
 -- The sizes and the slots of the groups of each part, by the variables of both states, of inputs and of outputs. Nothing here need be believed.
-use Rattle.std.specs.Prelude.{true, false, List, [], ◌++◌, ℕ, ◌+◌, ◌*◌, length}
+use Rattle.std.specs.Prelude.{List, [], ◌++◌, ℕ, ◌+◌, ◌*◌, length}
 use Rattle.lexical.specs.Lists.{upward}
 use Rattle.static_rules.specs.Carriers.{Variable}
 use Rattle.static_rules.specs.Limits.{binding_count}
 use Rattle.slot_carriers.specs.CellGroups.{CellsOf}
+use Rattle.slot_carriers.specs.declared.groups.GroupSize.{GroupSize}
 use Rattle.nest_steps.specs.PlansPart.{Part}
+use Rattle.nest_steps.specs.PlansConclusions.{OfState, OfStep}
 use Rattle.nest_steps.specs.NestPromises.{Groups}
 
 -- the cells of both states, plain and primed
@@ -20,17 +22,27 @@ pub record OperationCells (cells : List ℕ) (us cs is os : List Variable) : Typ
   pub inputs : CellsOf cells 16 is
   pub outputs : CellsOf cells 19 os
 
+-- the size of a group by its variables; of one without variables, which has the empty binding; of two groups together
+abbrev pub size_of : List Variable → GroupSize
+size_of vs = record { variables = length vs; bindings = binding_count vs }
+
+abbrev pub no_variables : GroupSize
+no_variables = record { variables = 0; bindings = 1 }
+
+abbrev pub size_of_both : (vs us : List Variable) → GroupSize
+size_of_both vs us = record { variables = length vs + length us; bindings = binding_count vs * binding_count us }
+
 -- "Initialisation runs over the concrete variables"
 abbrev pub opening_part : (us cs : List Variable) → Part
 opening_part us cs = record {
-  abstracts = record { variables = 0; bindings = 1 };
-  concretes = record { variables = length cs; bindings = binding_count cs };
-  inputs = record { variables = 0; bindings = 1 };
-  outputs = record { variables = 0; bindings = 1 };
-  primes = record { variables = 0; bindings = 1 };
-  readying = record { variables = 0; bindings = 1 };
-  meeting = record { variables = length us; bindings = binding_count us };
-  primed = false;
+  abstracts = no_variables;
+  concretes = size_of cs;
+  inputs = no_variables;
+  outputs = no_variables;
+  primes = no_variables;
+  readying = no_variables;
+  meeting = size_of us;
+  conclusion = OfState;
 }
 
 abbrev pub opening_groups : (us cs : List Variable) → Groups
@@ -47,14 +59,14 @@ opening_groups us cs = record {
 -- "applicability over abstract, concrete, inputs"
 abbrev pub applicability_part : (us cs is os : List Variable) → Part
 applicability_part us cs is os = record {
-  abstracts = record { variables = length us; bindings = binding_count us };
-  concretes = record { variables = length cs; bindings = binding_count cs };
-  inputs = record { variables = length is; bindings = binding_count is };
-  outputs = record { variables = 0; bindings = 1 };
-  primes = record { variables = 0; bindings = 1 };
-  readying = record { variables = length os + length us; bindings = binding_count os * binding_count us };
-  meeting = record { variables = length os + length cs; bindings = binding_count os * binding_count cs };
-  primed = false;
+  abstracts = size_of us;
+  concretes = size_of cs;
+  inputs = size_of is;
+  outputs = no_variables;
+  primes = no_variables;
+  readying = size_of_both os us;
+  meeting = size_of_both os cs;
+  conclusion = OfState;
 }
 
 abbrev pub applicability_groups : (us cs is os : List Variable) → Groups
@@ -71,14 +83,14 @@ applicability_groups us cs is os = record {
 -- "correctness over abstract, concrete, inputs, outputs, concrete primed"
 abbrev pub correctness_part : (us cs is os : List Variable) → Part
 correctness_part us cs is os = record {
-  abstracts = record { variables = length us; bindings = binding_count us };
-  concretes = record { variables = length cs; bindings = binding_count cs };
-  inputs = record { variables = length is; bindings = binding_count is };
-  outputs = record { variables = length os; bindings = binding_count os };
-  primes = record { variables = length cs; bindings = binding_count cs };
-  readying = record { variables = length os + length us; bindings = binding_count os * binding_count us };
-  meeting = record { variables = length us; bindings = binding_count us };
-  primed = true;
+  abstracts = size_of us;
+  concretes = size_of cs;
+  inputs = size_of is;
+  outputs = size_of os;
+  primes = size_of cs;
+  readying = size_of_both os us;
+  meeting = size_of us;
+  conclusion = OfStep;
 }
 
 abbrev pub correctness_groups : (us cs is os : List Variable) → Groups

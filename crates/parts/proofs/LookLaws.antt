@@ -35,7 +35,7 @@ use Rattle.parts.specs.SearchPromises.{OpeningReady, ApplicabilityReady, Correct
 use Rattle.parts.proofs.SetupLaws.{opening-counts, OperationLook, us, cs, is, os, operation-counts, applicability-is, correctness-is, outputs-by-part}
 
 -- the cells of a dossier's variables, by the lists of its variables
-state-cells : {cells : List ℕ} {d : Dossier} → made.StateCells cells (unprimed d d.abstract) (unprimed d d.concrete) → StatesCelled cells d
+pub state-cells : {cells : List ℕ} {d : Dossier} → made.StateCells cells (unprimed d d.abstract) (unprimed d d.concrete) → StatesCelled cells d
 state-cells c = record { abstracts = c.abstracts; concretes = c.concretes; concretes_primed = c.concretes_primed; abstracts_primed = c.abstracts_primed }
 
 -- ---- initialisation

@@ -8,10 +8,10 @@ use native.Mathlib.Omega.{arith}
 use lib.IntN.{ℤ}
 use Rattle.obligations.specs.Subjects.{subject_of}
 use Rattle.plans.specs.declared.Part.{Part}
-use Rattle.nest.specs.NestStepsPartTests.{passes_from, stopped_at, Looked}
+use Rattle.nest.specs.NestStepsPartTests.{places, passing, stopped_at, Looked}
 use Rattle.nest.specs.NestStepsNestPromises.{NestAsked}
 use Rattle.nest.specs.SweepPromises.{SweepAnswers}
-use Rattle.part_setup.specs.SetupPromises.{FewPlaces, places, Filled}
+use Rattle.part_setup.specs.SetupPromises.{FewPlaces, Filled}
 use Rattle.part_setup.specs.PartTestsPartOrder.{part_size, part_begin}
 use Rattle.part_setup.proofs.PartTestsLookedChecks.{passes_place}
 use Rattle.parts.specs.SearchPromises.{PartAsked, PartAnswers, PartReady, LookAsked, LookAnswers}
@@ -20,7 +20,7 @@ module _ {table plan cells : List ℕ} {p : Part} where
   pub few-places : PartAsked table plan cells p → FewPlaces p
   few-places a =
       let z = a.nest.sized in
-      record { few_a = z.few_a.1; few_c = z.few_c.1; few_i = z.few_i.1; few_q = z.few_o.1; few_k = z.few_k.1 }
+      record { few_a = z.abstracts.few; few_c = z.concretes.few; few_i = z.inputs.few; few_q = z.outputs.few; few_k = z.primes.few }
 
   pub nest-asked : {before : List (List ℤ)} → PartAsked table plan cells p → Filled cells before → NestAsked table plan cells p before
   nest-asked a f = record { groups = a.groups; tests = a.tests; point = λ s. 0; nest = a.nest; shows = f.shows }
@@ -36,7 +36,7 @@ module _ {table plan cells : List ℕ} {p : Part} where
     part-swept {from} {end} {to} {failing} h m w = record {
       size_is = e;
       past = λ l. absurd (omega arith);
-      looked = λ l G T n. subst (λ (x : ℕ). Looked (passes_from T p.concretes.bindings p.inputs.bindings p.outputs.bindings p.primes.bindings) from x (stopped_at x failing) (is_some failing)) m (w.looked G T n);
+      looked = λ l G T n. subst (λ (x : ℕ). Looked (passing p T) from x (stopped_at x failing) (is_some failing)) m (w.looked G T n);
     }
 
 -- tests that agree at all places up to the end
@@ -63,6 +63,6 @@ module _ {table rows firsts groups plan cells : List ℕ} {p : Part} {k : ℕ} w
     looked = λ d R h l.
         let y = r.is_part d R h in
         let e : size ≡ part_size d k = w.size_is ∙ y.many in
-        looked-same (passes_from y.tests p.concretes.bindings p.inputs.bindings p.outputs.bindings p.primes.bindings) (λ (q : ℕ). passes_place (subject_of d) (part_begin d k + q)) from (min end size) (stopped_at (min end size) failing) (is_some failing)
+        looked-same (passing p y.tests) (λ (q : ℕ). passes_place (subject_of d) (part_begin d k + q)) from (min end size) (stopped_at (min end size) failing) (is_some failing)
         (λ q m. y.same q (omega arith)) (w.looked (omega arith) y.groups y.tests y.nest);
   }

@@ -1,10 +1,10 @@
 -- What is asked where a part of a dossier's check is set up: the cells of its variables, the sizes of its groups, the rows of its predicates. Assumes nothing.
-use mathlib.Core.Path.{◌≡◌, refl, sym, subst}
+use mathlib.Core.Path.{◌≡◌, sym, subst}
 use mathlib.Core.List.{List}
 use mathlib.Core.Option.{some}
-use Prim.Native.Nat.{ℕ, zero, suc, ◌+◌, ◌-◌, ◌*◌, ◌<◌, ◌≤◌}
+use Prim.Native.Nat.{ℕ, ◌+◌, ◌-◌, ◌*◌, ◌<◌, ◌≤◌}
 use native.Mathlib.Omega.{arith}
-use lib.ListN.{length, get_or, get_elem?, replicate}
+use lib.ListN.{length, get_elem?, replicate}
 use Rattle.form.specs.Tree.{Operation, Dossier}
 use Rattle.static_rules.specs.Carriers.{Variable}
 use Rattle.static_rules.specs.Scope.{unprimed, inputs, outputs}
@@ -12,20 +12,16 @@ use Rattle.meaning.proofs.Places.{entry-below, below-entry}
 use Rattle.plans.specs.declared.Part.{Part}
 use Rattle.plans.specs.PlanPromises.{CommonRows, OperationRows}
 use Rattle.part_setup.specs.PartTestsPartGroups.{applicability_part, correctness_part}
-use Rattle.part_setup.specs.ReadingsReadings.{GroupAt, ReadingOf}
+use Rattle.part_setup.specs.ReadingsReadings.{ReadingOf}
+use Rattle.nest.proofs.MemoMemos.{all-zero}
 use Rattle.part_searches.proofs.NestParts.{common-rows, operation-rows}
-use Rattle.part_setup.specs.SetupPromises.{Blank, StatesAsked, StatesSet, OperationAsked, OperationSet, CountedAt, OpeningCounts, OpeningPartAsked}
-use Rattle.part_setup.specs.SetupPromises.{OperationCounts, OperationPartAsked, ApplicabilityPartIs, CorrectnessPartIs}
+use Rattle.part_setup.specs.SetupPromises.{Blank, StatesAsked, StatesSet, OperationAsked, OperationSet, OpeningCounts, OperationCounts, ApplicabilityPartIs, CorrectnessPartIs}
+use Rattle.part_setup.proofs.AskedParts as part
 use Rattle.parts.specs.SearchPromises.{LookAsked, PartReady}
 
 -- the cells before anything is written
 pub blank : (n : ℕ) → Blank (replicate n 0)
-blank n = record { each = go n }
-  where
-    go : (n i : ℕ) → get_or {A = ℕ} (replicate n 0) i 0 ≡ 0
-    go zero i = refl
-    go (suc n) zero = refl
-    go (suc n) (suc i) = go n i
+blank n = record { each = all-zero n }
 
 -- a part by another name of its number
 module _ {table rows firsts groups : List ℕ} {k m : ℕ} where
@@ -35,9 +31,6 @@ module _ {table rows firsts groups : List ℕ} {k m : ℕ} where
   pub ready-as : {plan cells : List ℕ} {p : Part} → PartReady table rows firsts groups m plan cells p → k ≡ m → PartReady table rows firsts groups k plan cells p
   ready-as {plan} {cells} {p} r e = subst (λ (n : ℕ). PartReady table rows firsts groups n plan cells p) (sym e) r
 
-pub counted : {table groups : List ℕ} {row : ℕ} {vs : List Variable} {many few : ℕ} → GroupAt table groups row vs many few → CountedAt groups row vs few
-counted g = record { count = g.count; bindings = g.bindings }
-
 states-asked : {table rows firsts groups : List ℕ} {d : Dossier} → ReadingOf table rows firsts groups d → StatesAsked table groups
 states-asked {d = d} R = record { abstractly = unprimed d d.abstract; concretely = unprimed d d.concrete; abstracts = R.abstracts; concretes = R.concretes }
 
@@ -45,11 +38,7 @@ states-asked {d = d} R = record { abstractly = unprimed d d.abstract; concretely
 
 pub opening-counts : {table rows firsts groups cells : List ℕ} {d : Dossier} → ReadingOf table rows firsts groups d → StatesSet table groups cells
     → OpeningCounts groups cells (unprimed d d.abstract) (unprimed d d.concrete)
-opening-counts {d = d} R s = record {
-  cells_are = s.made (unprimed d d.abstract) (unprimed d d.concrete) R.abstracts R.concretes;
-  abstracts = counted R.abstracts;
-  concretes = counted R.concretes;
-}
+opening-counts R s = part.opening-counts R.abstracts R.concretes s
 
 module _ {table rows firsts groups : List ℕ} {k : ℕ} (a : LookAsked table rows firsts groups k) where
   pub opening-cells-asked : StatesAsked table groups
@@ -57,13 +46,6 @@ module _ {table rows firsts groups : List ℕ} {k : ℕ} (a : LookAsked table ro
 
   pub opening-rows : CommonRows rows firsts
   opening-rows = common-rows a.reading.tests
-
-  pub opening-part-asked : {cells : List ℕ} → StatesSet table groups cells → OpeningPartAsked groups cells
-  opening-part-asked s = record {
-    abstractly = unprimed a.dossier a.dossier.abstract;
-    concretely = unprimed a.dossier a.dossier.concrete;
-    counts = opening-counts a.reading s;
-  }
 
 -- ---- an operation's parts
 
@@ -100,7 +82,7 @@ module _ {table rows firsts groups : List ℕ} {j : ℕ} (x : OperationLook tabl
   abbrev pub os : List Variable
   os = outputs x.dossier x.operation
 
-  pub operation-low : j < 16
+  operation-low : j < 16
   operation-low = let h = entry-below x.operation x.dossier.operations j x.listed in omega (arith, x.reading.operations)
 
   pub operation-cells-asked : OperationAsked table groups (18 + 8 * j)
@@ -115,17 +97,8 @@ module _ {table rows firsts groups : List ℕ} {j : ℕ} (x : OperationLook tabl
 
   module _ {cells : List ℕ} (s : OperationSet table groups (18 + 8 * j) cells) where
     pub operation-counts : OperationCounts groups (18 + 8 * j) cells us cs is os
-    operation-counts = record {
-      cells_are = s.made us cs is os x.reading.abstracts x.reading.concretes (x.reading.inputs_at j x.operation x.listed)
-          (x.reading.outputs_at j x.operation x.listed);
-      abstracts = counted x.reading.abstracts;
-      concretes = counted x.reading.concretes;
-      inputs = counted (x.reading.inputs_at j x.operation x.listed);
-      outputs = counted (x.reading.outputs_at j x.operation x.listed);
-    }
-
-    pub operation-part-asked : OperationPartAsked groups (18 + 8 * j) cells
-    operation-part-asked = record { abstractly = us; concretely = cs; inward = is; outward = os; row_low = omega (arith, operation-low); counts = operation-counts }
+    operation-counts =
+        part.operation-counts x.reading.abstracts x.reading.concretes (x.reading.inputs_at j x.operation x.listed) (x.reading.outputs_at j x.operation x.listed) s
 
     rows_of : OperationRows rows firsts j (length os)
     rows_of =

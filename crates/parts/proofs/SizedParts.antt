@@ -17,7 +17,7 @@ use Rattle.slot_carriers.specs.CellGroups.{CellsOf, Grouped}
 use Rattle.plans.specs.PointsPoints.{span}
 use Rattle.plans.proofs.PointsPointNumbers.{span-append}
 use Rattle.plans.proofs.PointsPointBindings.{span-count}
-use Rattle.nest.specs.NestStepsNestPromises.{Sized}
+use Rattle.nest.specs.NestStepsNestPromises.{SizedGroup, Sized}
 use Rattle.part_setup.specs.PartTestsPartGroups.{opening_part, applicability_part, correctness_part}
 use Rattle.part_searches.specs.PartCells.{StatesCelled, OperationCelled}
 use Rattle.part_setup.specs.ReadingsReadings.{ReadingOf}
@@ -25,17 +25,22 @@ use Rattle.part_searches.proofs.InitialisationNest.{initialisation_groups}
 use Rattle.part_searches.proofs.ApplicabilityNest.{applicability_of}
 use Rattle.part_searches.proofs.CorrectnessNest.{correctness_of}
 
--- two groups one behind the other
-both_long : (s t : ℕ) (vs us : List Variable) → length (upward s (length vs) ++ upward t (length us)) ≡ length vs + length us
-both_long s t vs us = length-append (upward s (length vs)) (upward t (length us)) ∙ ap₂ ◌+◌ (upward-long s (length vs)) (upward-long t (length us))
+-- a group without variables, that of variables from a slot on, two groups one behind the other
+none-sized : {cells : List ℕ} {most : ℕ} → 1 ≤ most → SizedGroup cells [] (record { variables = 0; bindings = 1 }) most
+unfolding span
+none-sized h = record { many = refl; counted = refl; few = h }
 
-both_span : (cells : List ℕ) (s t : ℕ) (vs us : List Variable) → CellsOf cells s vs → CellsOf cells t us
-    → binding_count vs * binding_count us ≡ span cells (upward s (length vs) ++ upward t (length us))
-both_span cells s t vs us h k =
-    sym (span-append cells (upward s (length vs)) (upward t (length us)) ∙ ap₂ ◌*◌ (span-count cells s vs h) (span-count cells t us k))
+group-sized : (cells : List ℕ) (s : ℕ) (vs : List Variable) {most : ℕ} → CellsOf cells s vs → binding_count vs ≤ most
+    → SizedGroup cells (upward s (length vs)) (record { variables = length vs; bindings = binding_count vs }) most
+group-sized cells s vs c h = record { many = upward-long s (length vs); counted = sym (span-count cells s vs c); few = h }
 
-both-few : (n m : ℕ) → n ≤ 64 → m ≤ 4096 → n * m ≤ 2 ^ 18
-both-few n m h k = mul-le-mul {n₂ = 64} {m₂ = 4096} h k
+both-sized : (cells : List ℕ) (s t : ℕ) (vs us : List Variable) → CellsOf cells s vs → CellsOf cells t us → binding_count vs ≤ 64 → binding_count us ≤ 4096
+    → SizedGroup cells (upward s (length vs) ++ upward t (length us)) (record { variables = length vs + length us; bindings = binding_count vs * binding_count us }) (2 ^ 18)
+both-sized cells s t vs us c k h l = record {
+  many = length-append (upward s (length vs)) (upward t (length us)) ∙ ap₂ ◌+◌ (upward-long s (length vs)) (upward-long t (length us));
+  counted = sym (span-append cells (upward s (length vs)) (upward t (length us)) ∙ ap₂ ◌*◌ (span-count cells s vs c) (span-count cells t us k));
+  few = mul-le-mul {n₂ = 64} {m₂ = 4096} h l;
+}
 
 grouped : (cells : List ℕ) (vs : List Variable) → CellsOf cells 16 vs → binding_count vs ≤ 64 → Grouped cells 16 (length vs)
 grouped cells vs h l = record { group = vs; each = h; long = refl; few = omega arith }
@@ -48,29 +53,20 @@ module _ (d : Dossier) where
   cs = unprimed d d.concrete
 
   pub opening-sized : {table rows firsts groups cells : List ℕ} → ReadingOf table rows firsts groups d → StatesCelled cells d → Sized cells (opening_part us cs) (initialisation_groups d)
-  unfolding span upward CellsOf binding_count
+  unfolding upward CellsOf binding_count
   opening-sized {cells = cells} R C = record {
-    va = refl;
-    vc = upward-long 8 (length cs);
-    vi = refl;
-    vo = refl;
-    vk = refl;
-    vr = refl;
-    vm = upward-long 0 (length us);
-    na = refl;
-    nc = sym (span-count cells 8 cs C.concretes);
-    ni = refl;
-    nq = refl;
-    nk = refl;
-    nr = refl;
-    nm = sym (span-count cells 0 us C.abstracts);
-    few_a = (omega arith, omega arith);
-    few_c = (bindings-some cs, R.concretes.bindings);
-    few_i = (omega arith, omega arith);
-    few_o = (omega arith, omega arith);
-    few_k = (omega arith, omega arith);
-    few_r = omega arith;
-    few_m = omega (arith, R.abstracts.bindings);
+    abstracts = none-sized (omega arith);
+    concretes = group-sized cells 8 cs C.concretes R.concretes.bindings;
+    inputs = none-sized (omega arith);
+    outputs = none-sized (omega arith);
+    primes = none-sized (omega arith);
+    readying = none-sized (omega arith);
+    meeting = group-sized cells 0 us C.abstracts (omega (arith, R.abstracts.bindings));
+    some_a = omega arith;
+    some_c = bindings-some cs;
+    some_i = omega arith;
+    some_o = omega arith;
+    some_k = omega arith;
     abstracts_are = refl;
     concretes_are = refl;
     inputs_are = refl;
@@ -87,29 +83,19 @@ module _ (d : Dossier) where
 
     pub applicability-sized : {table rows firsts groups cells : List ℕ} → ReadingOf table rows firsts groups d → (j : ℕ) → get_elem? d.operations j ≡ some op
         → OperationCelled cells d op → Sized cells (applicability_part us cs is os) (applicability_of d op)
-    unfolding span
     applicability-sized {cells = cells} R j listed C = record {
-      va = upward-long 0 (length us);
-      vc = upward-long 8 (length cs);
-      vi = upward-long 16 (length is);
-      vo = refl;
-      vk = refl;
-      vr = both_long 19 30 os us;
-      vm = both_long 19 22 os cs;
-      na = sym (span-count cells 0 us C.states.abstracts);
-      nc = sym (span-count cells 8 cs C.states.concretes);
-      ni = sym (span-count cells 16 is C.inputs_in);
-      nq = refl;
-      nk = refl;
-      nr = both_span cells 19 30 os us C.outputs_in C.states.abstracts_primed;
-      nm = both_span cells 19 22 os cs C.outputs_in C.states.concretes_primed;
-      few_a = (bindings-some us, R.abstracts.bindings);
-      few_c = (bindings-some cs, R.concretes.bindings);
-      few_i = (bindings-some is, (R.inputs_at j op listed).bindings);
-      few_o = (omega arith, omega arith);
-      few_k = (omega arith, omega arith);
-      few_r = both-few (binding_count os) (binding_count us) (R.outputs_at j op listed).bindings R.abstracts.bindings;
-      few_m = both-few (binding_count os) (binding_count cs) (R.outputs_at j op listed).bindings R.concretes.bindings;
+      abstracts = group-sized cells 0 us C.states.abstracts R.abstracts.bindings;
+      concretes = group-sized cells 8 cs C.states.concretes R.concretes.bindings;
+      inputs = group-sized cells 16 is C.inputs_in (R.inputs_at j op listed).bindings;
+      outputs = none-sized (omega arith);
+      primes = none-sized (omega arith);
+      readying = both-sized cells 19 30 os us C.outputs_in C.states.abstracts_primed (R.outputs_at j op listed).bindings R.abstracts.bindings;
+      meeting = both-sized cells 19 22 os cs C.outputs_in C.states.concretes_primed (R.outputs_at j op listed).bindings R.concretes.bindings;
+      some_a = bindings-some us;
+      some_c = bindings-some cs;
+      some_i = bindings-some is;
+      some_o = omega arith;
+      some_k = omega arith;
       abstracts_are = refl;
       concretes_are = refl;
       inputs_are = refl;
@@ -120,27 +106,18 @@ module _ (d : Dossier) where
     pub correctness-sized : {table rows firsts groups cells : List ℕ} → ReadingOf table rows firsts groups d → (j : ℕ) → get_elem? d.operations j ≡ some op
         → OperationCelled cells d op → Sized cells (correctness_part us cs is os) (correctness_of d op)
     correctness-sized {cells = cells} R j listed C = record {
-      va = upward-long 0 (length us);
-      vc = upward-long 8 (length cs);
-      vi = upward-long 16 (length is);
-      vo = upward-long 19 (length os);
-      vk = upward-long 22 (length cs);
-      vr = both_long 19 30 os us;
-      vm = upward-long 30 (length us);
-      na = sym (span-count cells 0 us C.states.abstracts);
-      nc = sym (span-count cells 8 cs C.states.concretes);
-      ni = sym (span-count cells 16 is C.inputs_in);
-      nq = sym (span-count cells 19 os C.outputs_in);
-      nk = sym (span-count cells 22 cs C.states.concretes_primed);
-      nr = both_span cells 19 30 os us C.outputs_in C.states.abstracts_primed;
-      nm = sym (span-count cells 30 us C.states.abstracts_primed);
-      few_a = (bindings-some us, R.abstracts.bindings);
-      few_c = (bindings-some cs, R.concretes.bindings);
-      few_i = (bindings-some is, (R.inputs_at j op listed).bindings);
-      few_o = (bindings-some os, (R.outputs_at j op listed).bindings);
-      few_k = (bindings-some cs, R.concretes.bindings);
-      few_r = both-few (binding_count os) (binding_count us) (R.outputs_at j op listed).bindings R.abstracts.bindings;
-      few_m = omega (arith, R.abstracts.bindings);
+      abstracts = group-sized cells 0 us C.states.abstracts R.abstracts.bindings;
+      concretes = group-sized cells 8 cs C.states.concretes R.concretes.bindings;
+      inputs = group-sized cells 16 is C.inputs_in (R.inputs_at j op listed).bindings;
+      outputs = group-sized cells 19 os C.outputs_in (R.outputs_at j op listed).bindings;
+      primes = group-sized cells 22 cs C.states.concretes_primed R.concretes.bindings;
+      readying = both-sized cells 19 30 os us C.outputs_in C.states.abstracts_primed (R.outputs_at j op listed).bindings R.abstracts.bindings;
+      meeting = group-sized cells 30 us C.states.abstracts_primed (omega (arith, R.abstracts.bindings));
+      some_a = bindings-some us;
+      some_c = bindings-some cs;
+      some_i = bindings-some is;
+      some_o = bindings-some os;
+      some_k = bindings-some cs;
       abstracts_are = refl;
       concretes_are = refl;
       inputs_are = refl;

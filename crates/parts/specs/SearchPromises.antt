@@ -3,7 +3,7 @@ use Rattle.std.specs.Prelude.{◌≡◌, Bool, cond, Option, None, IfSome, is_so
 use Rattle.form.specs.Tree.{Dossier}
 use Rattle.plans.specs.declared.Part.{Part}
 use Rattle.plans.specs.PlanPromises.{InitialisationPlan, ApplicabilityPlan, CorrectnessPlan}
-use Rattle.nest.specs.NestStepsPartTests.{PartTests, passes_from, stopped_at, Looked}
+use Rattle.nest.specs.NestStepsPartTests.{PartTests, places, passing, stopped_at, Looked}
 use Rattle.nest.specs.NestStepsNestPromises.{Groups, Nest}
 use Rattle.obligations.specs.Subjects.{subject_of}
 use Rattle.obligations.specs.Order.{passes, checks, total, look}
@@ -28,10 +28,10 @@ pub record PartAsked (table plan cells : List ℕ) (p : Part) : Type 0 where
   pub first_values : FirstValues cells
 
 pub record PartAnswers (table plan cells : List ℕ) (p : Part) (from end size : ℕ) (failing : Option ℕ) : Type 0 where
-  pub size_is : size ≡ p.abstracts.bindings * p.concretes.bindings * p.inputs.bindings * p.outputs.bindings * p.primes.bindings
+  pub size_is : size ≡ places p
   pub past : size ≤ from → failing ≡ None
   pub looked : from < size → (G : Groups) (T : PartTests) → Nest table plan cells p G T
-      → Looked (passes_from T p.concretes.bindings p.inputs.bindings p.outputs.bindings p.primes.bindings) from (min end size) (stopped_at (min end size) failing) (is_some failing)
+      → Looked (passing p T) from (min end size) (stopped_at (min end size) failing) (is_some failing)
 
 -- the k-th part of a check, counted from where it begins
 pub record LookAsked (table rows firsts groups : List ℕ) (k : ℕ) : Type 0 where
@@ -60,8 +60,8 @@ pub record PartFor (table plan cells : List ℕ) (p : Part) (d : Dossier) (k : �
   pub groups : Groups
   pub tests : PartTests
   pub nest : Nest table plan cells p groups tests
-  pub many : p.abstracts.bindings * p.concretes.bindings * p.inputs.bindings * p.outputs.bindings * p.primes.bindings ≡ part_size d k
-  pub same : (q : ℕ) → q < part_size d k → passes_from tests p.concretes.bindings p.inputs.bindings p.outputs.bindings p.primes.bindings q ≡ passes (subject_of d) (check_at (subject_of d) (part_begin d k + q))
+  pub many : places p ≡ part_size d k
+  pub same : (q : ℕ) → q < part_size d k → passing p tests q ≡ passes (subject_of d) (check_at (subject_of d) (part_begin d k + q))
 
 pub record PartReady (table rows firsts groups : List ℕ) (k : ℕ) (plan cells : List ℕ) (p : Part) : Type 0 where
   pub first_values : FirstValues cells

@@ -1,14 +1,12 @@
 // Parts of a check made ready for their searches: what is made of a dossier for them.
+// Form 5: `LookAsked` is of the dossier and of the part's number k: a struct of both is a `Model` of some ten lines, and `set_part` would still show k for each obligation.
 ghost use Rattle.std.specs.Prelude.{◌≡◌, ◌+◌, ◌*◌};
 ghost use Rattle.part_setup.specs.SetupPromises.{Blank};
 ghost use Rattle.parts.specs.SearchPromises.{LookAsked, OpeningReady, ApplicabilityReady, CorrectnessReady, PartReady};
 
 use form::node::NUMBERS;
 use held_checks::{Obligation, obligation_of};
-use part_setup::{
-    OPERATION_ROW, OPERATION_ROWS, applicability_part, correctness_part, opening_cells,
-    opening_part, operation_cells,
-};
+use part_setup::{applicability, correctness, opening};
 use plans::{PLAN, Part, PartSearch, plan_applicability, plan_correctness, plan_initialisation};
 use search_groups::Dossier;
 use slot_carriers::CELLS;
@@ -46,9 +44,8 @@ fn set_opening(d: &Dossier<'_>, cells: &mut [u32; CELLS], plan: &mut [u16; PLAN]
     requires blank { Blank cells.old }
     ensures { OpeningReady d.now.table.now d.now.rows.now d.now.firsts.now d.now.groups.now plan.new cells.new result }
 {
-    opening_cells(d, cells);
     plan_initialisation(d, plan);
-    opening_part(d, cells)
+    opening(d, cells)
 }
 
 // Applicability of operation j.
@@ -64,9 +61,7 @@ fn set_applicability(
     requires blank { Blank cells.old }
     ensures { ApplicabilityReady d.now.table.now d.now.rows.now d.now.firsts.now d.now.groups.now j plan.new cells.new result }
 {
-    let row = OPERATION_ROWS + OPERATION_ROW * j;
-    operation_cells(d, row, cells);
-    let part = applicability_part(d, row, cells);
+    let part = applicability(d, j, cells);
     plan_applicability(
         d,
         j,
@@ -88,9 +83,7 @@ fn set_correctness(
     requires blank { Blank cells.old }
     ensures { CorrectnessReady d.now.table.now d.now.rows.now d.now.firsts.now d.now.groups.now j plan.new cells.new result }
 {
-    let row = OPERATION_ROWS + OPERATION_ROW * j;
-    operation_cells(d, row, cells);
-    let part = correctness_part(d, row, cells);
+    let part = correctness(d, j, cells);
     plan_correctness(d, j, part.outputs.variables, plan);
     part
 }
@@ -115,6 +108,7 @@ pub(crate) fn set_part(
 }
 
 // Initialisation, in arrays of its own.
+// Form 2: over `set_part` it and `ready_correctness` would be one function, but that promises the nest of a part (`PartReady`), not the plan, the cells and the sizes that each of these promises.
 pub fn ready_opening(d: &Dossier<'_>) -> ReadyPart
     requires { LookAsked d.now.table.now d.now.rows.now d.now.firsts.now d.now.groups.now 0 }
     ensures { OpeningReady d.now.table.now d.now.rows.now d.now.firsts.now d.now.groups.now result.plan result.cells result.part }

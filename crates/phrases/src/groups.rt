@@ -1,24 +1,23 @@
 // Groups of variables: their names, their values one behind the other or in columns.
 ghost use Rattle.std.specs.Prelude.{◌≤◌};
 
-use crate::Source;
-use labels::{GROUPS, TITLES, VARIABLE, VARIABLES};
+use crate::{SPACE, Source};
+use labels::{GROUPS, TITLES, VARIABLE, VARIABLES_FROM};
 use lexical::bounds::{NAME_LETTERS, OPERATIONS};
 use lexical::classes::run_from;
-use lines::{Group, LINE, OPERATION_ROW, SLOTS, Side, byte_of, put_group};
+use lines::{Group, LINE, SLOTS, Side, byte_of, put_group};
 use pieces::Writer;
+use search_groups::groups::OPERATION_ROWS;
 use sheets::Sheet;
 use text_places::{Span, before, part};
 
 // The columns of the two sides.
+// Form 1: these and the next are columns and an indent, no kinds.
 pub const LEFT: usize = 14;
 
 pub const RIGHT: usize = 56;
 
-const SPACE: u8 = b' ';
-
 // How far a value goes in that is broken.
-// Form 1: an indent, no kind.
 pub const DEEPER: usize = 2;
 
 // The group of a letter among the words.
@@ -38,8 +37,8 @@ pub fn side_of(letter: u8) -> Option<Side> {
 fn row_of(operation: usize) -> usize
     ensures { result ≤ 120 }
 {
-    if operation < OPERATIONS as usize {
-        return OPERATION_ROW * operation;
+    if operation < usize::from(OPERATIONS) {
+        return OPERATION_ROWS * operation;
     }
     0
 }
@@ -66,6 +65,7 @@ pub struct Pen<'a> {
 }
 
 // Has a number the k-th bit?
+// Form 2: `sets::has` is the same of 16 bits; one for both would be a trait over widths for this line.
 pub fn has_bit(bits: usize, k: usize) -> bool {
     k < usize::BITS as usize && (bits >> k) % 2 == 1
 }
@@ -152,7 +152,7 @@ impl Pen<'_> {
     fn put_named(&mut self, g: &Group, k: usize) {
         let row = g.first.saturating_add(k);
         if row < GROUPS {
-            self.put_name(VARIABLES + VARIABLE * row, DEEPER);
+            self.put_name(VARIABLES_FROM + VARIABLE * row, DEEPER);
             if let Some(b) = byte_of(g.ending) {
                 self.sheet.put(b, DEEPER);
             }

@@ -3,18 +3,15 @@ ghost use Rattle.std.specs.Prelude.{◌≡◌, Some, None};
 
 use crate::groups::has_bit;
 use crate::words::SPELLINGS;
+use crate::{NEWLINE, SPACE};
 use lexical::Ending;
 use lines::byte_of;
 use sheets::Sheet;
 use text_places::{Span, before, line_start, part};
 
-const SPACE: u8 = b' ';
-
-const NEWLINE: u8 = b'\n';
-
 // How many codes of symbols there are.
 // Form 1: the constants from here on are a count and widths.
-const SYMBOLS: usize = 64;
+pub const CODES: usize = 64;
 
 // A line of the text is indented so far, shown so long, at most so much of it before the byte, and at most so many bytes are underlined.
 const MARGIN: usize = 4;
@@ -45,7 +42,7 @@ pub fn word(words: &[u8], n: usize) -> &[u8] {
 
 // The symbols that the bits have, a space before each.
 pub(crate) fn put_symbols(bits: usize, indent: usize, out: &mut Sheet) {
-    for k in 0..SYMBOLS {
+    for k in 0..CODES {
         if has_bit(bits, k) {
             out.put(SPACE, indent);
             out.flow(word(&SPELLINGS, k), indent);

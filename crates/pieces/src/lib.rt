@@ -1,7 +1,7 @@
 // Pieces of text in lent bytes, one behind the other.
 #![tactic(auto)]
 
-ghost use Rattle.std.specs.Prelude.{◌≡◌, [], ◌∷◌, ◌+◌, ◌^◌, ◌≤◌, ◌<◌, length, take, drop};
+ghost use Rattle.std.specs.Prelude.{[], ◌∷◌, ◌+◌, ◌≤◌, ◌<◌, length};
 ghost use Rattle.obligations.specs.Report.{decimal, signed_decimal};
 ghost use Rattle.pieces.specs.PiecePromises.{Adds, letters_at};
 

@@ -10,7 +10,7 @@ use lib.ListN.{get_or, length, set, length-append}
 use borrow.Author.Tests.{lt-ltb, le-ltb, eqb-true, eqb-false, eq-eqb, ne_eqb}
 use Rattle.plans.specs.PlansByNumber.{Asking, level_of, entry_of, entries_from, entries_of, search_entries, Rows, no_asking}
 use Rattle.plans.specs.declared.Asked.{Asked}
-use Rattle.plans.specs.PlanWriting.{asking, asked_in, RowIn, Appended, count_below, count_of}
+use Rattle.plans.specs.PlanWriting.{asked_in, RowIn, Appended, count_below, count_of}
 use Rattle.plans.proofs.Segments.{either, appended-none, appended_one, appended-both}
 
 -- ---- the level and the conjunct of one row

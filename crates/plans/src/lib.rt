@@ -14,21 +14,23 @@ use points::{plan, slots};
 use search_groups::conjuncts::ROW;
 use search_groups::contexts::{CONCRETE_SIDE, OPERATIONS, SIDES};
 use search_groups::{Dossier, columns, contexts};
+pub use slot_carriers::groups::GroupSize;
 use std::ops::Range;
 
 // How many numbers a plan has: those of the five searches, and room for their tests.
 pub const PLAN: usize = 20560;
 
-// How many variables a group has, and how many bindings they have.
+// What it depends on whether that is there which must be: on the concrete state and the inputs alone (initialisation, applicability); where the part goes over
+// the concrete primed variables (correctness), on all that it goes over but the concrete state.
+// Form 1: two cases of their own, no Option or Result.
 #[derive(Clone, Copy)]
-pub struct GroupSize {
-    pub variables: usize,
-    pub bindings: usize,
+pub enum Conclusion {
+    OfState,
+    OfStep,
 }
 
 // The sizes of the groups that a part goes over: abstract, concrete, inputs, outputs, concrete primed; then of the two searches for a step of the abstract
-// operation (`readying`) and for what must be there (`meeting`). `primed`: it goes over the concrete primed variables (correctness). What must be there then does
-// not depend on the concrete state; else it depends on the concrete state and the inputs alone.
+// operation (`readying`) and for what must be there (`meeting`).
 #[derive(Clone, Copy)]
 pub struct Part {
     pub abstracts: GroupSize,
@@ -38,7 +40,7 @@ pub struct Part {
     pub primes: GroupSize,
     pub readying: GroupSize,
     pub meeting: GroupSize,
-    pub primed: bool,
+    pub conclusion: Conclusion,
 }
 
 // What the searches of a part go over: the reader's table, the plans of the searches, the cells of the variables, and the part's sizes.
@@ -62,9 +64,10 @@ impl PartSearch<'_> {
     }
 }
 
-// A predicate that a search asks: where its rows begin, and how many they are; asked of the state before (0) or after (1); the column of the first group, how many variables that
+// A predicate that a search asks: where its rows begin, and how many they are; asked of the state before or after; the column of the first group, how many variables that
 // group has, the column of the second.
-// Form 1: the side is the parity of a test in the plan (`points::slots::AFTER`), which is added to twice the end of its nodes; as an enum it would be turned back into that number where it is written.
+// Form 1: the side is one of the two arrays of slots (`points::slots::BEFORE`, `AFTER`), the parity of a test in the plan, where it is added to twice the end of the test's nodes; as an enum
+// it would be turned back into that number there.
 #[derive(Clone, Copy)]
 pub struct Asked {
     pub from: usize,
@@ -91,7 +94,8 @@ fn level_of(d: &Dossier<'_>, r: usize, p: Asked) -> usize
 }
 
 // How many rows a context has.
-// Form 5: the context changes with each call, so that a type of contexts whose rows begin and end would be shown at each as the clause of these four functions is now.
+// Form 5: each of the fifteen predicates in the plans below is of another context than the one before it. A type of contexts whose rows begin and end would take the clause from these four
+// functions and stand as one more call, `over(d, context(d, c), ..)`, in each of the fifteen, where the fact would be shown as it is now.
 fn rows_of(d: &Dossier<'_>, c: usize) -> usize
     requires { Between d.now.firsts.now c }
     ensures { result ≡ many_by d.now.firsts.now c }
@@ -121,7 +125,7 @@ fn after(d: &Dossier<'_>, c: usize, n: usize, second: usize) -> Asked
 {
     Asked {
         count: n,
-        ..over(d, c, 1, second)
+        ..over(d, c, slots::AFTER, second)
     }
 }
 
@@ -133,7 +137,7 @@ fn step(d: &Dossier<'_>, c: usize, n: usize, second: usize) -> Asked
     Asked {
         first: columns::OUTPUTS,
         count: n,
-        ..over(d, c, 0, second)
+        ..over(d, c, slots::BEFORE, second)
     }
 }
 
@@ -249,15 +253,25 @@ impl<'a> Writer<'a> {
         self.search(
             d,
             plan::STATES,
-            &[over(d, contexts::ABSTRACT_STATE, 0, columns::ABSTRACT)],
+            &[over(
+                d,
+                contexts::ABSTRACT_STATE,
+                slots::BEFORE,
+                columns::ABSTRACT,
+            )],
         );
         self.head(plan::RELATED, slots::CONCRETE, 0, slots::CONCRETE);
         self.search(
             d,
             plan::RELATED,
             &[
-                over(d, contexts::CONCRETE_STATE, 0, columns::CONCRETE),
-                over(d, contexts::RETRIEVE, 0, columns::CONCRETE),
+                over(
+                    d,
+                    contexts::CONCRETE_STATE,
+                    slots::BEFORE,
+                    columns::CONCRETE,
+                ),
+                over(d, contexts::RETRIEVE, slots::BEFORE, columns::CONCRETE),
             ],
         );
         self.head(plan::READY, slots::OUTPUTS, n, slots::ABSTRACT_PRIMED);
@@ -287,8 +301,13 @@ pub fn plan_initialisation(d: &Dossier<'_>, plan: &mut [u16; PLAN])
         d,
         plan::RELATED,
         &[
-            over(d, contexts::CONCRETE_STATE, 0, columns::CONCRETE),
-            over(d, contexts::CINIT, 0, columns::CONCRETE),
+            over(
+                d,
+                contexts::CONCRETE_STATE,
+                slots::BEFORE,
+                columns::CONCRETE,
+            ),
+            over(d, contexts::CINIT, slots::BEFORE, columns::CONCRETE),
         ],
     );
     w.nothing(d, plan::READY);
@@ -298,9 +317,14 @@ pub fn plan_initialisation(d: &Dossier<'_>, plan: &mut [u16; PLAN])
         d,
         MET,
         &[
-            over(d, contexts::ABSTRACT_STATE, 0, columns::ABSTRACT),
-            over(d, contexts::AINIT, 0, columns::ABSTRACT),
-            over(d, contexts::RETRIEVE, 0, columns::ABSTRACT),
+            over(
+                d,
+                contexts::ABSTRACT_STATE,
+                slots::BEFORE,
+                columns::ABSTRACT,
+            ),
+            over(d, contexts::AINIT, slots::BEFORE, columns::ABSTRACT),
+            over(d, contexts::RETRIEVE, slots::BEFORE, columns::ABSTRACT),
         ],
     );
 }
@@ -335,9 +359,14 @@ pub fn plan_correctness(d: &Dossier<'_>, j: usize, n: usize, plan: &mut [u16; PL
         d,
         MET,
         &[
-            over(d, contexts::ABSTRACT_STATE, 1, columns::ABSTRACT),
-            over(d, contexts::RETRIEVE, 1, columns::ABSTRACT),
-            over(d, OPERATIONS + SIDES * j, 0, columns::ABSTRACT_PRIMED),
+            over(d, contexts::ABSTRACT_STATE, slots::AFTER, columns::ABSTRACT),
+            over(d, contexts::RETRIEVE, slots::AFTER, columns::ABSTRACT),
+            over(
+                d,
+                OPERATIONS + SIDES * j,
+                slots::BEFORE,
+                columns::ABSTRACT_PRIMED,
+            ),
         ],
     );
 }

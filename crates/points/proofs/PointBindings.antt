@@ -7,6 +7,7 @@ use mathlib.Core.Option.{Option, none, some}
 use mathlib.Core.Logic.{inl, inr}
 use Prim.Native.Nat.{ℕ, suc, ◌+◌, ◌*◌, ◌<◌, ◌≤◌}
 use native.Mathlib.Nat.{zero-lt-suc}
+use native.Mathlib.Decide.{dec_lt}
 use native.Mathlib.Omega.{arith}
 use lib.Arith.{digits_lt, digits_div, digits_mod}
 use lib.ListN.{length, get_or}
@@ -24,6 +25,7 @@ use Rattle.slot_carriers.specs.CarriersValuesByNumber.{value_at, binding_at}
 use Rattle.slot_carriers.proofs.CarriersValues.{count-some}
 use Rattle.slot_carriers.proofs.CarriersBindings.{bindings-some, bindings-at, digit-small, again_rest}
 use Rattle.slot_carriers.specs.Cells.{CellOf, count_in}
+use Rattle.slot_carriers.specs.CellGroups as groups
 use Rattle.slot_carriers.specs.CellGroups.{CellsOf}
 use Rattle.truths.specs.TablePlacesResolvedTable.{Slots, slotted}
 use Rattle.points.specs.Points.{Point, primed_slot, span, number_of, Tame}
@@ -36,6 +38,13 @@ pub span-count : (cells : List ℕ) (base : ℕ) (vs : List Variable) → CellsO
 unfolding CellsOf span upward binding_count
 span-count cells base [] h = refl
 span-count cells base (v ∷ vs) h = ap₂ ◌*◌ h.0.count (span-count cells (suc base) vs h.1)
+
+-- so many as the slots have, or as some variables with these cells
+pub span-counts : (cells : List ℕ) (s n w : ℕ) → w ≡ span cells (upward s n) → groups.Counts cells s n w
+span-counts cells s n w e vs c l = e ∙ sym (ap (λ (x : ℕ). span cells (upward s x)) l) ∙ span-count cells s vs c
+
+pub variable-counts : (cells : List ℕ) (s n w : ℕ) (us : List Variable) → CellsOf cells s us → length us ≡ n → w ≡ binding_count us → groups.Counts cells s n w
+variable-counts cells s n w us c l e = span-counts cells s n w (e ∙ sym (span-count cells s us c) ∙ ap (λ (x : ℕ). span cells (upward s x)) l)
 
 -- and their variables have values
 pub group-counts : (cells : List ℕ) (base : ℕ) (vs : List Variable) → CellsOf cells base vs → Counts cells (upward base (length vs))
@@ -101,6 +110,14 @@ primed-abstract t h = ap (λ (b : Bool). cond b (t + 30) (t + 14)) (lt-ltb t 8 h
 pub primed-concrete : (t : ℕ) → 8 ≤ t → primed_slot t ≡ t + 14
 unfolding primed_slot
 primed-concrete t h = ap (λ (b : Bool). cond b (t + 30) (t + 14)) (le-ltb t 8 h)
+
+-- all behind the plain ones
+pub primed-high : (t : ℕ) → 22 ≤ primed_slot t
+primed-high t =
+    elim (dec_lt t 8) [
+      | yes h ↦ (let e : primed_slot t ≡ t + 30 = primed-abstract t h in omega arith)
+      | no h ↦ (let g : 8 ≤ t = omega arith in let e : primed_slot t ≡ t + 14 = primed-concrete t g in omega arith)
+    ]
 
 -- two points have the same values, one from the slot a on, one from b on
 binding-shift : (vs : List Variable) (a b : ℕ) (δ ε : Point) → ((i : ℕ) → i < length vs → δ (a + i) ≡ ε (b + i)) → binding_by vs (slotted a vs) δ ≡ binding_by vs (slotted b vs) ε

@@ -1,5 +1,8 @@
 // The layout of a plan: for each of the five searches 16 numbers, then the tests of all of them.
 // Form 1: lengths and places in a plan, no kinds. The number of a search is the place of its 16 numbers, and a search for idle variables goes over all numbers from one on.
+// Form 6: one array, as the table and the cells beside it in `plans::PartSearch`: how many tests a search has is known when its last one is written. Of the heads as structs two functions
+// would read fields in place of places (`PartSearch::tests`, `seek::slot_of`) and two write them (`search` and `head` of `plans::Writer`): ten expressions in all; what a plan means is said
+// through `mark_in` and `slot_in` alone.
 pub const HEAD: usize = 16;
 
 pub const TESTS: usize = 80;

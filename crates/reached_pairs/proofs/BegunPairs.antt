@@ -9,12 +9,11 @@ use lib.Arith.{digits_div, digits_mod}
 use borrow.Author.Rules.{rules}
 use Rattle.std.specs.Prelude.{Option, Some, None, IfSome}
 use Rattle.form.specs.Tree.{Dossier}
-use Rattle.static_rules.specs.Scope.{unprimed}
-use Rattle.meaning.specs.Operations.{abstract_bindings, concrete_bindings}
-use Rattle.carriers.proofs.Bindings.{bindings-some, bindings-count}
 use Rattle.plans.specs.declared.Part.{Part}
 use Rattle.step_searches.specs.ReadingsReadings.{ReadingOf}
 use Rattle.step_searches.specs.PartTestsPartsByNumber.{abstract_at, initial, initial_match}
+use Rattle.step_searches.proofs.FoundOpenings.{sizes}
+use Rattle.step_searches.proofs.PartSizes.{opening-nm-is, opening-nc-is}
 use Rattle.step_searches.specs.StepPromises.{OpeningSearches, Opened, InitialStateFound, InitialMatchFound}
 use Rattle.reached_pairs.specs.declared.marks.Mark.{Mark}
 use Rattle.reached_pairs.specs.Reached.{first_mark, layer_of, layer_in}
@@ -25,29 +24,11 @@ use Rattle.reached_pairs.proofs.GrownMarks.{grown_wider, scan-start, scan-next, 
 use Rattle.reached_pairs.proofs.NextLayer.{layered-first}
 
 module _ {table plan cells : List ℕ} {p : Part} {d : Dossier} (S : OpeningSearches table plan cells p d) where
-  pub open-a : p.meeting.bindings ≡ many_abstract d
-  unfolding abstract_bindings
-  open-a = ap (λ (q : Part). q.meeting.bindings) S.part_is ∙ sym (bindings-count (unprimed d d.abstract))
-
-  pub open-c : p.concretes.bindings ≡ many_concrete d
-  unfolding concrete_bindings
-  open-c = ap (λ (q : Part). q.concretes.bindings) S.part_is ∙ sym (bindings-count (unprimed d d.concrete))
-
   pub open-pairs : p.meeting.bindings * p.concretes.bindings ≡ many_pairs d
-  open-pairs = ap₂ ◌*◌ open-a open-c
-
-  pub few_a : (0 < p.meeting.bindings) × (p.meeting.bindings ≤ 4096)
-  few_a =
-      let e : p.meeting.bindings ≡ _ = ap (λ (q : Part). q.meeting.bindings) S.part_is in
-      (omega (arith, e, bindings-some (unprimed d d.abstract)), omega (arith, e, S.few.abstract_bindings_lem))
-
-  pub few_c : (0 < p.concretes.bindings) × (p.concretes.bindings ≤ 4096)
-  few_c =
-      let e : p.concretes.bindings ≡ _ = ap (λ (q : Part). q.concretes.bindings) S.part_is in
-      (omega (arith, e, bindings-some (unprimed d d.concrete)), omega (arith, e, S.few.concrete_bindings_lem))
+  open-pairs = ap₂ ◌*◌ (opening-nm-is S) (opening-nc-is S)
 
   pub open-small : p.meeting.bindings * p.concretes.bindings ≤ 16777216
-  open-small = mul-le-mul {n₂ = 4096} {m₂ = 4096} few_a.1 few_c.1
+  open-small = mul-le-mul {n₂ = 4096} {m₂ = 4096} (sizes S).1.1 (sizes S).0.1
 
 -- ---- abstract initial states
 
@@ -92,13 +73,13 @@ module _ {table plan cells : List ℕ} {p : Part} {c : ℕ} {m : Mark} where
     where
       here : (d : Dossier) → OpeningSearches table plan cells p d → BegunWith d c (x * p.concretes.bindings + c)
       here d S =
-          subst (λ (n : ℕ). BegunWith d c (x * n + c)) (sym (open-c S))
-          (begun-here d c x (omega (arith, open-c S, l)) (omega (arith, open-a S, h)) (w.found d S h))
+          subst (λ (n : ℕ). BegunWith d c (x * n + c)) (sym (opening-nc-is S))
+          (begun-here d c x (omega (arith, opening-nc-is S, l)) (omega (arith, opening-nm-is S, h)) (w.found d S h))
 
   pub open_done : {x : ℕ} {a b : List Mark} → MatchesBeginning table plan cells p c m x a b → p.meeting.bindings ≤ x → MatchesBegun table plan cells p c m a b
   open_done {x = x} w h = record {
     each = λ d S. grown_wider (BegunWith d c) (scan-done (open_test d c) (λ (x z : ℕ). z ≡ x * p.concretes.bindings + c) p.meeting.bindings x (w.each d S) h) (λ y v z k. k)
-        (begun-found d c p.meeting.bindings p.concretes.bindings (open-a S) (open-c S));
+        (begun-found d c p.meeting.bindings p.concretes.bindings (opening-nm-is S) (opening-nc-is S));
   }
 
 -- ---- concrete initial states
@@ -127,7 +108,7 @@ module _ {table plan cells : List ℕ} {p : Part} where
       found : (d : Dossier) → OpeningSearches table plan cells p d → (y : ℕ) → Begins d y → Hits (initial d) (BegunWith d) p.concretes.bindings y
       found d S y k = record {
         number = concrete_of d y;
-        low = omega (arith, open-c S, low_digit y (many_abstract d) (many_concrete d) k.inside);
+        low = omega (arith, opening-nc-is S, low_digit y (many_abstract d) (many_concrete d) k.inside);
         hit = k.starts;
         there = record { inside = k.inside; concrete_is = refl; matched = k.matched };
       }

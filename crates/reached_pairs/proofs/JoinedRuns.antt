@@ -1,4 +1,4 @@
--- Runs with one more entry at their end, and the last states of runs that stand beside each other. Assumes nothing.
+-- Runs with one more entry at their end. Assumes nothing.
 use mathlib.Core.Path.{◌≡◌, refl}
 use mathlib.Core.List.{List, [], ◌∷◌, ◌++◌}
 use Rattle.meaning.specs.Meaning.{Binding}
@@ -30,10 +30,3 @@ pub entries-more : (m : Machine) (es : List Entry) (e : Entry) → Entries m es 
 unfolding Entries
 entries-more m [] e p h = (h, tt)
 entries-more m (x ∷ es) e p h = (p.0, entries-more m es e p.1 h)
-
-pub related-last : (R : Relation) (a c : Binding) (gs hs : List Outcome) → Related R a c → Alike R gs hs → Related R (last a gs) (last c hs)
-unfolding Alike last
-related-last R a c [] [] r p = r
-related-last R a c [] (h ∷ hs) r p = absurd p
-related-last R a c (g ∷ gs) [] r p = absurd p
-related-last R a c (g ∷ gs) (h ∷ hs) r p = related-last R g.state h.state gs hs p.1 p.2

@@ -17,10 +17,11 @@ use Rattle.meaning.specs.Operations.{abstract_initial, concrete_initial, related
 use Rattle.meaning.proofs.Places.{entry-below, below-entry}
 use Rattle.obligations.specs.Machines.{Machine, parameters, steps, abstract_side, concrete_side}
 use Rattle.obligations.specs.Runs.{Entry, IsEntry, Entries, Outcome, Initial, Step, Path, last, Related, Alike}
+use Rattle.obligations.proofs.Matching.{related-on}
 use Rattle.step_searches.specs.PartTestsPartsByNumber.{nth, abstract_at, concrete_at, input_at, output_at, initial, initial_match, concretely, match}
 use Rattle.reached_pairs.specs.Reached.{Reached}
 use Rattle.reached_pairs.specs.ReachedByNumber.{many_abstract, many_concrete, many_pairs, abstract_of, concrete_of, Begins, Leads, Goes, Chain, begun, gone}
-use Rattle.reached_pairs.proofs.JoinedRuns.{path-more, last_more, alike-more, entries-more, related-last}
+use Rattle.reached_pairs.proofs.JoinedRuns.{path-more, last_more, alike-more, entries-more}
 use Rattle.reached_pairs.proofs.PairNumbers.{high_digit, low_digit, pair_inside, at-over, over-at, at_once}
 
 -- the tests by numbers, in the order in which they are asked
@@ -204,7 +205,7 @@ module _ (d : Dossier) where
         let k : related d (state_a x) (state_c x) ≡ true
         = subst (λ (a : Binding). related d a (state_c x) ≡ true) r.ends_a
         (subst (λ (c : Binding). related d (last r.first_a r.gs) c ≡ true) r.ends_c
-        (related-last (related d) r.first_a r.first_c r.gs r.hs r.beside.first r.beside.after)) in
+        (related-on (related d) r.first_a r.first_c r.gs r.hs r.beside.first r.beside.after)) in
         record {
           entries = entries-more (abstract_side d) es (entry_for (abstract_side d) j i) r.entries goes-entry;
           first_a = r.first_a;

@@ -18,11 +18,12 @@ use Rattle.step_searches.specs.StepPromises.{StepSearches, PrepareAsked, Prepare
 use Rattle.reached_pairs.specs.declared.marks.Mark.{Mark}
 use Rattle.reached_pairs.specs.Reached.{layer_of, mark_in, layer_in}
 use Rattle.reached_pairs.specs.ReachedByNumber.{many_pairs, Goes, Leads, Layered, Grown, Hits, MarkFrom, MayFrom, MustFrom, MustBelow, LayerCounted}
-use Rattle.reached_pairs.specs.PairPromises.{PairMay, PairTo, PairsAsked, InputsSpread, PairSpread, PairsSpread, PairsAre, OperationSpread, LayerSpread, Layers, ReachAnswers}
+use Rattle.reached_pairs.specs.PairPromises.{PairMay, PairTo, PairsAsked, InputsSpread, PairSpread, PairsSpread, PairsAre, PairsFit, OperationSpread, LayerSpread, Layers, ReachAnswers}
 use Rattle.reached_pairs.proofs.GrownMarks.{grown_stays, grown-none, grown_join, grown_wider, scan-next, scan-done, sought-each}
 use Rattle.reached_pairs.proofs.NextLayer.{layered-next}
 use Rattle.reached_pairs.proofs.Layers.{layered-reached}
-use Rattle.reached_pairs.proofs.SpreadSteps.{size-i, size-pairs}
+use Rattle.step_searches.proofs.PartSizes.{ni-is}
+use Rattle.reached_pairs.proofs.SpreadSteps.{size-pairs}
 
 -- a pair of layer n was one before marks of layer n + 1 were added
 older : (may : (y : ℕ) (m : Mark) → Type 0) (must : ℕ → Type 0) (n : ℕ) (a b : List Mark) → Grown may must a b → ((y : ℕ) (m : Mark) → may y m → layer_of m ≡ suc n) → (q : ℕ) → layer_in b q ≡ n → layer_in a q ≡ n
@@ -98,7 +99,7 @@ module _ {table rows firsts groups : List ℕ} {n : ℕ} where
       go : (d : Dossier) → ReadingOf table rows firsts groups d → (op : Operation) × (get_elem? d.operations j ≡ some op) → Grown (MayFrom d n a) (MustFrom d j n a) a b
       go d R o =
           let S : StepSearches table plan cells p d o.0 = f.searches d o.0 R o.1 in
-          grown_wider (MustFrom d j n a) (w.each d o.0 S) (λ y v z k. may-from d o.0 j n o.1 a y v k) (must-from d o.0 j n o.1 a p.inputs.bindings (p.abstracts.bindings * p.concretes.bindings) (size-i S) (size-pairs S))
+          grown_wider (MustFrom d j n a) (w.each d o.0 S) (λ y v z k. may-from d o.0 j n o.1 a y v k) (must-from d o.0 j n o.1 a p.inputs.bindings (p.abstracts.bindings * p.concretes.bindings) (ni-is S) (size-pairs S))
 
   pub layer-start : (a : List Mark) → LayerSpread table rows firsts groups 0 n a a
   layer-start a = record { each = λ d R h. grown-none (MustBelow d 0 n a) a (λ y k. omega (arith, k.low)) }
@@ -135,14 +136,18 @@ module _ {table rows firsts groups : List ℕ} {n : ℕ} where
   pub layer-done : {j : ℕ} {a b : List Mark} (end : ℕ) → LayerSpread table rows firsts groups j n a b → j ≤ end → end ≤ j → LayerSpread table rows firsts groups end n a b
   layer-done {j = j} {a = a} {b = b} end w l h = let e : j ≡ end = omega arith in subst (λ (k : ℕ). LayerSpread table rows firsts groups k n a b) e w
 
+-- room for as many as there are
+pub pairs-fit : {table rows firsts groups : List ℕ} {pairs : ℕ} → PairsAre table rows firsts groups pairs → PairsFit table rows firsts groups
+pairs-fit e = record { room = λ d R. omega (arith, e.room, e.are d R) }
+
 -- what the pairs of an operation's part are asked with
-pub pairs-asked : {table rows firsts groups plan cells : List ℕ} {p : Part} {j pairs : ℕ} → PrepareAsked table rows firsts groups j → PairsAre table rows firsts groups pairs
+pub pairs-asked : {table rows firsts groups plan cells : List ℕ} {p : Part} {j : ℕ} → PrepareAsked table rows firsts groups j → PairsFit table rows firsts groups
     → Prepared table rows firsts groups j plan cells p → PairsAsked table plan cells p
 pairs-asked {j = j} q e f =
     let o : (op : Operation) × (get_elem? q.dossier.operations j ≡ some op) = below-entry q.dossier.operations j q.listed in
     record {
       steps = record { dossier = q.dossier; operation = o.0; searches = f.searches q.dossier o.0 q.reading o.1 };
-      room = omega (arith, size-pairs (f.searches q.dossier o.0 q.reading o.1), e.room, e.are q.dossier q.reading);
+      room = omega (arith, size-pairs (f.searches q.dossier o.0 q.reading o.1), e.room q.dossier q.reading);
     }
 
 pub operation-few : {table rows firsts groups : List ℕ} {j : ℕ} → PrepareAsked table rows firsts groups j → j < 16

@@ -1,21 +1,20 @@
 -- What one operation leads to: by the searches for concrete steps and for the abstract states that match them. Assumes nothing.
-use mathlib.Core.Path.{◌≡◌, refl, sym, ap, ap₂, subst, subst₂, ◌∙◌}
+use mathlib.Core.Path.{◌≡◌, refl, sym, ap₂, subst, subst₂, ◌∙◌}
 use mathlib.Core.Bool.{true}
 use mathlib.Core.List.{List}
 use Prim.Native.Nat.{ℕ, ◌+◌, ◌*◌, ◌/◌, ◌%◌, ◌<◌, ◌≤◌}
-use native.Mathlib.Nat.{div-add-mod', mul-le-mul}
+use native.Mathlib.Nat.{div-add-mod'}
 use native.Mathlib.Omega.{arith}
 use lib.Arith.{digits_div, digits_mod}
 use lib.ListN.{length}
 use Rattle.form.specs.Tree.{Operation, Dossier}
-use Rattle.static_rules.specs.Scope.{unprimed, inputs, outputs}
-use Rattle.meaning.specs.Bindings.{bindings}
-use Rattle.meaning.specs.Operations.{abstract_bindings, concrete_bindings, output_bindings}
-use Rattle.carriers.proofs.Bindings.{bindings-count}
+use Rattle.static_rules.specs.Scope.{inputs}
+use Rattle.meaning.specs.Operations.{output_bindings}
 use Rattle.plans.specs.declared.Part.{Part}
 use Rattle.points.specs.Searches.{Sought}
 use Rattle.step_searches.specs.PartTestsPartsByNumber.{abstract_at, concrete_at, output_at, concretely, match}
 use Rattle.step_searches.specs.declared.Stepped.{Stepped}
+use Rattle.step_searches.proofs.PartSizes.{na-is, nc-is, ni-is, nq-is}
 use Rattle.step_searches.specs.StepPromises.{StepSearches, MatchFound, ConcreteStepFound, Below}
 use Rattle.reached_pairs.specs.declared.marks.Mark.{Mark}
 use Rattle.reached_pairs.specs.ReachedByNumber.{many_abstract, many_concrete, many_pairs, abstract_of, concrete_of, Leads, Hits, Marked, MarkFrom}
@@ -25,31 +24,8 @@ use Rattle.reached_pairs.proofs.GrownMarks.{grown-none, grown_wider, scan-start,
 
 -- the sizes of the part are those of the dossier's groups
 module _ {table plan cells : List ℕ} {p : Part} {d : Dossier} {op : Operation} (S : StepSearches table plan cells p d op) where
-  pub size-a : p.abstracts.bindings ≡ many_abstract d
-  unfolding abstract_bindings
-  size-a = ap (λ (q : Part). q.abstracts.bindings) S.part_is ∙ sym (bindings-count (unprimed d d.abstract))
-
-  pub size-c : p.concretes.bindings ≡ many_concrete d
-  unfolding concrete_bindings
-  size-c = ap (λ (q : Part). q.concretes.bindings) S.part_is ∙ sym (bindings-count (unprimed d d.concrete))
-
-  pub size-i : p.inputs.bindings ≡ length (bindings (inputs d op))
-  size-i = ap (λ (q : Part). q.inputs.bindings) S.part_is ∙ sym (bindings-count (inputs d op))
-
-  pub size-o : p.outputs.bindings ≡ length (output_bindings d op)
-  unfolding output_bindings
-  size-o = ap (λ (q : Part). q.outputs.bindings) S.part_is ∙ sym (bindings-count (outputs d op))
-
   pub size-pairs : p.abstracts.bindings * p.concretes.bindings ≡ many_pairs d
-  size-pairs = ap₂ ◌*◌ size-a size-c
-
-  pub few-inputs : p.inputs.bindings ≤ 64
-  few-inputs = omega (arith, ap (λ (q : Part). q.inputs.bindings) S.part_is, S.input_bindings)
-
-  pub few-steps : p.outputs.bindings * p.concretes.bindings ≤ 262144
-  few-steps =
-      mul-le-mul {n₂ = 64} {m₂ = 4096} (omega (arith, ap (λ (q : Part). q.outputs.bindings) S.part_is, S.output_bindings_lem))
-      (omega (arith, ap (λ (q : Part). q.concretes.bindings) S.part_is, S.few.concrete_bindings_lem))
+  size-pairs = ap₂ ◌*◌ (na-is S) (nc-is S)
 
 -- ---- abstract states that match a concrete step
 
@@ -87,13 +63,13 @@ module _ {table plan cells : List ℕ} {p : Part} {b : Stepped} {m : Mark} where
     where
       here : (d : Dossier) (op : Operation) → StepSearches table plan cells p d op → MatchedBy d op b (x * p.concretes.bindings + b.k)
       here d op S =
-          subst (λ (n : ℕ). MatchedBy d op b (x * n + b.k)) (sym (size-c S))
-          (match-here d op b x (omega (arith, size-c S, l.k_low)) (omega (arith, size-a S, h)) (w.found d op S h))
+          subst (λ (n : ℕ). MatchedBy d op b (x * n + b.k)) (sym (nc-is S))
+          (match-here d op b x (omega (arith, nc-is S, l.k_low)) (omega (arith, na-is S, h)) (w.found d op S h))
 
   pub matches-done : {x : ℕ} {a c : List Mark} → MatchesSpreading table plan cells p b m x a c → p.abstracts.bindings ≤ x → MatchesSpread table plan cells p b m a c
   matches-done {x = x} w h = record {
     each = λ d op S. grown_wider (MatchedBy d op b) (scan-done (match_test d op b) (PairAt d op p.concretes.bindings b.k) p.abstracts.bindings x (w.each d op S) h) (λ y v z k. k)
-        (match-found d op b p.abstracts.bindings p.concretes.bindings (size-a S) (size-c S));
+        (match-found d op b p.abstracts.bindings p.concretes.bindings (na-is S) (nc-is S));
   }
 
 -- ---- concrete steps
@@ -146,12 +122,12 @@ module _ {table plan cells : List ℕ} {p : Part} {x i : ℕ} {m : Mark} where
   }
     where
       leads : (d : Dossier) (op : Operation) → StepSearches table plan cells p d op → (y : ℕ) → step_test d op p.concretes.bindings (x % p.concretes.bindings) i r ≡ true → StepTo d op p.concretes.bindings i x r y → Leads d op i x y
-      leads d op S y = subst₂ (StepLeads d op i x y r) (sym (size-o S)) (sym (size-c S)) (step-leads d op i x y r) h
+      leads d op S y = subst₂ (StepLeads d op i x y r) (sym (nq-is S)) (sym (nc-is S)) (step-leads d op i x y r) h
 
   pub steps-done : {r : ℕ} {a c : List Mark} → StepsSpreading table plan cells p x i m r a c → p.outputs.bindings * p.concretes.bindings ≤ r → StepsSpread table plan cells p x i m a c
   steps-done {r = r} w h = record {
     each = λ d op S. grown_wider (Leads d op i x) (scan-done (step_test d op p.concretes.bindings (x % p.concretes.bindings) i) (StepTo d op p.concretes.bindings i x) (p.outputs.bindings * p.concretes.bindings) r (w.each d op S) h) (λ y v z k. k)
-        (λ y. subst₂ (LeadsStep d op i x y) (sym (size-o S)) (sym (size-c S)) (leads-step d op i x y));
+        (λ y. subst₂ (LeadsStep d op i x y) (sym (nq-is S)) (sym (nc-is S)) (leads-step d op i x y));
   }
 
 -- ---- inputs
@@ -165,7 +141,7 @@ module _ {table plan cells : List ℕ} {p : Part} {x j n : ℕ} where
   inputs-next {i = i} {t = t} {m = m} w h f g q = record {
     each = λ d op S. scan-next (λ (z : ℕ). true) (InputTo d op x) (i + 1) i t (w.each d op S)
         (grown_wider (InputTo d op x i) (g.each d op S)
-        (λ y v z k. record { input = i; low = omega (arith, size-i S, h); from = subst (MarkFrom j i x n) (sym k.0) f; leads = k.1 }) (λ y k. k))
+        (λ y v z k. record { input = i; low = omega (arith, ni-is S, h); from = subst (MarkFrom j i x n) (sym k.0) f; leads = k.1 }) (λ y k. k))
         (subst (Sought (λ (z : ℕ). true) (i + 1) (i + 1)) (sym q) (sought-each (i + 1) (i + 1) (omega arith)));
   }
 

@@ -120,6 +120,10 @@ pub record PairsAre (table rows firsts groups : List ℕ) (pairs : ℕ) : Type 0
   pub room : pairs ≤ 262144
   pub are : (d : Dossier) → ReadingOf table rows firsts groups d → pairs ≡ many_pairs d
 
+-- there is room for all of them
+pub record PairsFit (table rows firsts groups : List ℕ) : Type 0 where
+  pub room : (d : Dossier) → ReadingOf table rows firsts groups d → many_pairs d ≤ 262144
+
 -- spread(d, j, n, marks)
 pub record OperationSpread (table rows firsts groups : List ℕ) (j n : ℕ) (before after : List Mark) : Type 0 where
   pub each : (d : Dossier) → ReadingOf table rows firsts groups d → j < length d.operations → Grown (MayFrom d n before) (MustFrom d j n before) before after

@@ -2,24 +2,23 @@
 // the initial states; those of layer n + 1 are what the pairs of layer n lead to and what has no mark yet. There is no queue, and no layer is kept but in the marks.
 // Form 3: in the loops by `while` the next place is what a search answers, which is lent the memory that the body is lent too: an iterator would have to own it.
 // Form 5: that the pairs have room is asked of five functions: as the invariant of a struct around `StepSearch` it would be opened by a line of its own in
-// each, and its `Model` is as long as the clauses are. The dossier's arrays are also lent to functions that ask less, so that they were read is no invariant of
-// `Dossier`; memory and marks are lent for a call, and in one struct each function would have to promise the other's part of it unchanged. A type for a low
-// number of a pair, an operation or a layer is a struct with a ghost field and a literal where the number is made, for three to six clauses each, and every use
-// of the number would name its field.
+// each, and its `Model` is as long as the clauses are. Memory and marks are lent for a call, and in one struct each function would have to promise the
+// other's part of it unchanged. A type for a low number of a pair, an operation or a layer is a struct with a ghost field and a literal where the number is
+// made, for three to six clauses each, and every use of the number would name its field.
 #![tactic(auto)]
 
 ghost use Rattle.std.specs.Prelude.{◌*◌, ◌<◌, ◌≤◌};
 ghost use Rattle.memo.specs.MemoPromises.{Memo};
-ghost use Rattle.step_searches.specs.StepPromises.{Below, PrepareAsked, OpenAsked, ReadAsked};
+ghost use Rattle.step_searches.specs.StepPromises.{Below, PrepareAsked, OpenAsked};
 ghost use Rattle.reached_pairs.specs.Reached.{layer_of, first_mark};
-ghost use Rattle.reached_pairs.specs.PairPromises.{MatchesSpread, StepsSpread, InputsSpread, PairSpread, PairsSpread, OperationSpread, LayerSpread, Layers, PairsAre};
+ghost use Rattle.reached_pairs.specs.PairPromises.{MatchesSpread, StepsSpread, InputsSpread, PairSpread, PairsSpread, OperationSpread, LayerSpread, Layers, PairsAre, PairsFit};
 ghost use Rattle.reached_pairs.specs.PairPromises.{OpenPairsAsked, MatchesBegun, StatesBegun, Begun, ReachAnswers};
 
 use crate::marks::{INITIAL, Mark, NONE, PAIRS, count_layer, is_of, mark_from, put_mark};
 use plans::PartSearch;
 use search_groups::Dossier;
 use step_searches::{
-    StepSearch, Stepped, next_concrete_step, next_initial_match, next_initial_state,
+    ReadDossier, StepSearch, Stepped, next_concrete_step, next_initial_match, next_initial_state,
     next_matching_state, prepare, prepare_opening,
 };
 
@@ -145,10 +144,10 @@ fn spread_pairs(
 }
 
 // What operation j leads to from the pairs of layer n.
-fn spread(d: &Dossier<'_>, j: usize, n: u64, pairs: usize, marks: &mut [Mark; PAIRS])
+fn spread(d: &Dossier<'_>, j: usize, n: u64, marks: &mut [Mark; PAIRS])
     requires n_nonzero { (0 < n) × (n < 4096) }
     requires prepare_asked { PrepareAsked d.now.table.now d.now.rows.now d.now.firsts.now d.now.groups.now j }
-    requires pairs_are { PairsAre d.now.table.now d.now.rows.now d.now.firsts.now d.now.groups.now pairs }
+    requires pairs_fit { PairsFit d.now.table.now d.now.rows.now d.now.firsts.now d.now.groups.now }
     ensures { OperationSpread d.now.table.now d.now.rows.now d.now.firsts.now d.now.groups.now j n marks.old marks.new }
 {
     let ready = prepare(d, j);
@@ -160,20 +159,18 @@ fn spread(d: &Dossier<'_>, j: usize, n: u64, pairs: usize, marks: &mut [Mark; PA
 }
 
 // What all operations lead to from there.
-fn spread_layer(d: &Dossier<'_>, n: u64, pairs: usize, marks: &mut [Mark; PAIRS])
+fn spread_layer(d: &ReadDossier<'_>, n: u64, marks: &mut [Mark; PAIRS])
     requires n_nonzero { (0 < n) × (n < 4096) }
-    requires reach_asked { ReadAsked d.now.table.now d.now.rows.now d.now.firsts.now d.now.groups.now d.now.operations }
-    requires pairs_are { PairsAre d.now.table.now d.now.rows.now d.now.firsts.now d.now.groups.now pairs }
+    requires pairs_fit { PairsFit d.now.table.now d.now.rows.now d.now.firsts.now d.now.groups.now }
     ensures { LayerSpread d.now.table.now d.now.rows.now d.now.firsts.now d.now.groups.now d.now.operations n marks.old marks.new }
 {
-    for j in 0..d.operations {
-        spread(d, j, n, pairs, marks);
+    for j in 0..d.arrays.operations {
+        spread(&d.arrays, j, n, marks);
     }
 }
 
 // One layer after the other. The whole search is done where a layer is empty; it is given up where the layers or the budget, a number of pairs, do not suffice.
-fn spread_all(d: &Dossier<'_>, budget: usize, pairs: usize, marks: &mut [Mark; PAIRS]) -> bool
-    requires reach_asked { ReadAsked d.now.table.now d.now.rows.now d.now.firsts.now d.now.groups.now d.now.operations }
+fn spread_all(d: &ReadDossier<'_>, budget: usize, pairs: usize, marks: &mut [Mark; PAIRS]) -> bool
     requires pairs_are { PairsAre d.now.table.now d.now.rows.now d.now.firsts.now d.now.groups.now pairs }
     requires layers { Layers d.now.table.now d.now.rows.now d.now.firsts.now d.now.groups.now d.now.operations 1 marks.old }
     ensures { ReachAnswers d.now.table.now d.now.rows.now d.now.firsts.now d.now.groups.now d.now.operations marks.new result }
@@ -188,7 +185,7 @@ fn spread_all(d: &Dossier<'_>, budget: usize, pairs: usize, marks: &mut [Mark; P
             return false;
         }
         left -= many;
-        spread_layer(d, n, pairs, marks);
+        spread_layer(d, n, marks);
     }
     false
 }
@@ -244,12 +241,11 @@ fn begin(d: &Dossier<'_>, marks: &mut [Mark; PAIRS]) -> Option<usize>
 
 // Every pair that is reached gets its mark; says whether the search was whole. Not where there are more pairs or more layers than there is room for, or more pairs to go on from than the
 // budget: then a pair without a mark may be reached too.
-pub fn reach(d: &Dossier<'_>, budget: usize, marks: &mut [Mark; PAIRS]) -> bool
-    requires { ReadAsked d.now.table.now d.now.rows.now d.now.firsts.now d.now.groups.now d.now.operations }
+pub fn reach(d: &ReadDossier<'_>, budget: usize, marks: &mut [Mark; PAIRS]) -> bool
     ensures { ReachAnswers d.now.table.now d.now.rows.now d.now.firsts.now d.now.groups.now d.now.operations marks.new result }
 {
     marks.fill(NONE);
-    let Some(pairs) = begin(d, marks) else {
+    let Some(pairs) = begin(&d.arrays, marks) else {
         return false;
     };
     spread_all(d, budget, pairs, marks)

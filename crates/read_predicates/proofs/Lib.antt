@@ -5,6 +5,7 @@ pub mod CountedRows
 -- what crates above name of crates below
 pub use Rattle.conjunct_tests.proofs.LastVariables as ConjunctTestsLastVariables
 pub use Rattle.conjunct_tests.proofs.EvaluationRangesAgree as EvaluationRangesAgree
+pub use Rattle.reader.proofs.NodeSpansDeclaredLengths as NodeSpansDeclaredLengths
 pub use Rattle.reader.proofs.NodeSpansStructure as NodeSpansStructure
 pub use Rattle.reader.proofs.ParserItemNodes as ParserItemNodes
 pub use Rattle.reader.proofs.ParserPartPlaces as ParserPartPlaces

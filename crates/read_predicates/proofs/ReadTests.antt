@@ -27,6 +27,7 @@ use Rattle.read_predicates.specs.TestedPredicates.{Tested, none_tested, one_test
 use Rattle.read_predicates.specs.PredicateRows.{Columns, RowsAt, no_rows, more_rows, ContextAt, TestsOf}
 use Rattle.read_predicates.proofs.ReadPredicates.{read-tested}
 use Rattle.read_predicates.proofs.SlotBounds.{slots-below, contexts-few}
+use Rattle.conjunct_tests.proofs.SearchGroupsConjunctTables.{row-long}
 
 module _ (table rows : List ℕ) where
   row-entry : (pre rest : List ℕ) (at from to : ℕ) (ss : List ℕ) (i : ℕ) → at ≡ length pre → rows ≡ pre ++ (conjunct_row from to ss ++ rest)
@@ -50,10 +51,6 @@ module _ (table rows : List ℕ) where
     concretes_primed = row-entry pre rest at from to ss 6 l e;
     abstracts_primed = row-entry pre rest at from to ss 7 l e;
   }
-
-  row-long : (from to : ℕ) (ss : List ℕ) → length (conjunct_row from to ss) ≡ 8
-  unfolding conjunct_row
-  row-long from to ss = refl
 
   -- conjuncts whose rows stand behind `pre`
   rows_at : (Γ : Scope) (W : Slots) (x : List ℕ) (ps : List Pred) → Conjuncts table Γ W x ps → (pre post : List ℕ) (at to : ℕ) → at ≡ length pre

@@ -7,14 +7,14 @@ use Prim.Native.Nat.{ℕ, zero, suc, pred, ◌+◌, ◌≤◌, ◌<◌}
 use native.Mathlib.Omega.{arith}
 use lib.Dec.{ltb}
 use lib.ListN.{length, drop, get_or}
-use borrow.Author.Tests.{ltb-true, ltb-false, lt-ltb}
+use borrow.Author.Tests.{ltb-true, ltb-false}
 use Rattle.lexical.specs.Kinds.{Kind}
 use Rattle.lexical.specs.Symbols.{Symbol}
 use Rattle.refusals.specs.Refusals.{many_declared}
 use Rattle.form.specs.Tree.{Letters, Given, Operation, Dossier}
 use Rattle.form.specs.Written.{Mark, unmarked, a_given, an_element, an_operation, Written, write_elements, write_givens, write_operations, written}
-use Rattle.form.specs.Form.{Forms, kind_at, refuse, excess, settled}
-use Rattle.form.proofs.FewBoundNames.{no-excess}
+use Rattle.form.specs.Form.{Forms, kind_at, excess, settled}
+use Rattle.form.proofs.FewBoundNames.{no-excess, over-limit}
 use Rattle.form.proofs.RelationsBehind as kept
 use Rattle.static_rules.specs.Carriers.{size_of}
 use Rattle.declared_names.specs.PassPromises.{Fewer}
@@ -43,17 +43,13 @@ no_mark {w} {d} f m over h =
     let k = marked h in
     no-excess f k.at k.inside many_declared (ap (settled (kind_at w (pred k.at)) (kind_at w k.at) (drop (suc k.at) w)) k.is ∙ over _ _ _)
 
-pub refused : (limit n : ℕ) → limit < n → refuse (ltb limit n) many_declared ≡ some many_declared
-unfolding refuse
-refused limit n l = ap (λ (b : Bool). refuse b many_declared) (lt-ltb limit n l)
-
 given-over : (n : ℕ) → 9 ≤ n → (k s : Kind) (rest : List Symbol) → settled k s rest (a_given n) ≡ some many_declared
 unfolding settled excess
-given-over n l k s rest = refused 8 n l
+given-over n l k s rest = over-limit 8 n many_declared l
 
 element-over : (n : ℕ) → 9 ≤ n → (k s : Kind) (rest : List Symbol) → settled k s rest (an_element n) ≡ some many_declared
 unfolding settled excess
-element-over n l k s rest = refused 8 n l
+element-over n l k s rest = over-limit 8 n many_declared l
 
 -- no mark of a family has a number over the limit
 abbrev pub None : ℕ → (ℕ → Mark) → List Written → Type 0
@@ -103,7 +99,7 @@ forms-fewer {w} {d} f =
 
 operation-over : (n : ℕ) → 17 ≤ n → (k s : Kind) (rest : List Symbol) → settled k s rest (an_operation n) ≡ some many_declared
 unfolding settled excess
-operation-over n l k s rest = refused 16 n l
+operation-over n l k s rest = over-limit 16 n many_declared l
 
 few-operations : (n : ℕ) (os : List Operation) (w : List Written) → None 16 an_operation (write_operations n os w) → n ≤ 16 → n + length os ≤ 16
 unfolding write_operations

@@ -17,19 +17,20 @@ use Rattle.form.specs.Form.{Forms, excess, settled}
 use Rattle.form.proofs.RelationsBehind as kept
 use Rattle.static_rules.specs.Scope.{is_input, is_output}
 use Rattle.search_groups.specs.GroupPromises.{FewParameters, FewEach, few_none, few_more, Few}
-use Rattle.reader.proofs.FewGivens.{Has, here, there, behind, no_mark, refused, None, one_more, in-operations, forms-few-operations}
+use Rattle.reader.proofs.FewGivens.{Has, here, there, behind, no_mark, None, one_more, in-operations, forms-few-operations}
+use Rattle.form.proofs.FewBoundNames.{over-limit}
 
 variable-over : (n : ℕ) → 8 < n → (k s : Kind) (rest : List Symbol) → settled k s rest (a_variable n) ≡ some many_declared
 unfolding settled excess
-variable-over n l k s rest = refused 8 n l
+variable-over n l k s rest = over-limit 8 n many_declared l
 
 input-over : (n : ℕ) → 3 < n → (k s : Kind) (rest : List Symbol) → settled k s rest (an_input n) ≡ some many_declared
 unfolding settled excess
-input-over n l k s rest = refused 3 n l
+input-over n l k s rest = over-limit 3 n many_declared l
 
 output-over : (n : ℕ) → 3 < n → (k s : Kind) (rest : List Symbol) → settled k s rest (an_output n) ≡ some many_declared
 unfolding settled excess
-output-over n l k s rest = refused 3 n l
+output-over n l k s rest = over-limit 3 n many_declared l
 
 -- a mark behind a type stands behind its name
 past-minus : (m : Mark) (b : Bool) (w : List Written) → Has m w → Has m (minus_of b w)

@@ -2,7 +2,7 @@
 use mathlib.Core.Path.{◌≡◌, refl, ◌∙◌, sym, subst}
 use mathlib.Core.Bool.{Bool, true, false, cond}
 use mathlib.Core.List.{List, map}
-use Prim.Native.Nat.{ℕ, zero, suc, ◌≤◌, ◌<◌}
+use Prim.Native.Nat.{ℕ, ◌≤◌, ◌<◌}
 use native.Mathlib.Omega.{arith}
 use lib.Dec.{eqb}
 use lib.ListN.{length, get_or, replicate, length-replicate}
@@ -24,15 +24,11 @@ use Rattle.reader.specs.Occurrences.{Occurs, AllFit}
 use Rattle.reader.proofs.TextLetters.{occurs-numbered, text-fits}
 use Rattle.reader.proofs.FewGivens.{forms-fewer}
 use Rattle.reader.proofs.DossierLetters.{symbols-in}
+use Rattle.lexical.proofs.Zeros.{zero-at}
 
 -- the sizes of the given sets stand in z
 abbrev pub Sizing : Dossier → Sizes → Type 0
 Sizing d z = (k : ℕ) → k < length d.givens → get_or z k 0 ≡ get_or (map size_of d.givens) k 0
-
-zero-entry : (n x : ℕ) → entry (replicate n 0) x ≡ 0
-zero-entry zero x = refl
-zero-entry (suc n) zero = refl
-zero-entry (suc n) (suc x) = zero-entry n x
 
 -- the sizes do not matter where the given sets have a fault
 sizeless : (a b c : ℕ) → (a ≡ 0 → ⊥) → cond (eqb a 0) b a ≡ cond (eqb a 0) c a
@@ -66,7 +62,7 @@ module _ (text : List ℕ) {codes₀ starts₀ values₀ coded starts valued : L
   names-from-free {d} f m long z sizes = on (eqb (givens_key d.givens 0 (replicate m 0) (numbering text) (givens_at d)) 0) refl
     where
       least_by : (s : Sizes) → Sizing d s → dossier_key d (replicate m 0) (numbering text) s ≡ least_key (name_faults d)
-      least_by s h = names-least f (replicate m 0) (omega (arith, length-replicate {A = ℕ} m 0)) (zero-entry m) s h
+      least_by s h = names-least f (replicate m 0) (omega (arith, length-replicate {A = ℕ} m 0)) (zero-at m) s h
 
       on : (t : Bool) → eqb (givens_key d.givens 0 (replicate m 0) (numbering text) (givens_at d)) 0 ≡ t
           → dossier_key d (replicate m 0) (numbering text) z ≡ least_key (name_faults d)

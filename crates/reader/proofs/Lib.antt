@@ -12,6 +12,7 @@ pub mod LaterPasses
 pub mod ArraysLeft
 pub mod ReadGives
 -- what crates above name of crates below
+pub use Rattle.node_spans.proofs.DeclaredLengths as NodeSpansDeclaredLengths
 pub use Rattle.node_spans.proofs.Structure as NodeSpansStructure
 pub use Rattle.parser.proofs.ItemNodes as ParserItemNodes
 pub use Rattle.parser.proofs.PartPlaces as ParserPartPlaces

@@ -7,7 +7,7 @@ ghost use Rattle.std.specs.Prelude.{length};
 ghost use Rattle.type_rules.specs.Passes.{refused_key};
 ghost use Rattle.type_rules.specs.TypesByNumber.{fault_key};
 ghost use Rattle.static_rules.specs.Limits.{binding_faults, size_faults};
-ghost use Rattle.reader.specs.Promises.{Reads, Written, Kept, Named, Tabled, Finds, Faults, Leaves};
+ghost use Rattle.reader.specs.Promises.{Reads, Named, Tabled, Finds, Faults, Leaves};
 
 use binding_counts::bindings::bindings;
 use form::node::NUMBERS;

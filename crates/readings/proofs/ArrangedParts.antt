@@ -4,17 +4,16 @@ use mathlib.Core.List.{List, [], ◌∷◌, ◌++◌, append-nil}
 use Prim.Native.Nat.{ℕ, suc, ◌+◌, ◌*◌, ◌≤◌}
 use native.Mathlib.Omega.{arith}
 use lib.ListN.{length, length-append}
-use Rattle.form.specs.Tree.{TypeForm, given_type, power_type, range_type, arrow_type, Declaration, declarations, Parameter, State, Operation, Dossier}
-use Rattle.lexical.specs.Symbols.{no_ending, Ending}
-use Rattle.form.specs.Written.{ending_of}
+use Rattle.form.specs.Tree.{declarations, Operation, Dossier}
 use Rattle.form.specs.Headings.{abstract_at, concrete_at, ainit_at, cinit_at, retrieve_at, operations_at, operation_length}
-use Rattle.form.specs.Codes.{Numbering, type_codes, type_width, declaration_code, declaration_codes, parameter_codes, condition_codes, state_codes, operation_codes}
+use Rattle.form.specs.Codes.{Numbering, declaration_codes, parameter_codes, condition_codes, operation_codes}
 use Rattle.form.specs.Codes.{abstractly_at, pred_width, dossier_codes}
 use Rattle.read_predicates.specs.ParserSections.{abstract_from, concrete_from, ainit_from, cinit_from, retrieve_from, operations_from}
 use Rattle.read_predicates.proofs.ParserItemNodes.{Split, split-first, split-next, split_at, split-length}
 use Rattle.read_predicates.proofs.ParserPartPlaces.{at-operations}
 use Rattle.read_predicates.specs.NodeSpansSpans.{operation_spans, spans_of, span, predicate_at}
 use Rattle.read_predicates.proofs.NodeSpansStructure.{split-move}
+use Rattle.read_predicates.proofs.NodeSpansDeclaredLengths.{declarations-long, parameters-long, state-long}
 
 -- the operations from number k on: the first one's heading stands at n
 pub data OperationsFrom (spans : List ℕ) (ρ : Numbering) (end : ℕ) : (n k : ℕ) → List Operation → Type 0 where
@@ -39,42 +38,6 @@ pub record Arranged (d : Dossier) (ρ : Numbering) (spans : List ℕ) (end : ℕ
 pub operations-end : {spans : List ℕ} {ρ : Numbering} {end n k : ℕ} {os : List Operation} → OperationsFrom spans ρ end n k os → n ≤ end
 operations-end (none_left h) = h
 operations-end (one_left i j a b c e r) = let l = operations-end r in omega arith
-
--- ---- lengths
-
-type-four : (t : TypeForm) (i : ℕ) (ρ : Numbering) → length (type_codes t i ρ) ≡ 4
-type-four (given_type g) i ρ = refl
-type-four (power_type g) i ρ = refl
-type-four (range_type r) i ρ = refl
-type-four (arrow_type a g h) i ρ = refl
-
-declaration-eight : (i : ℕ) (e : Ending) (x : Declaration) (ρ : Numbering) → length (declaration_code i e x ρ) ≡ 8
-declaration-eight i e x ρ = let l = type-four x.type (i + 2) ρ in omega arith
-
-declarations-long : (i : ℕ) (ds : List Declaration) (ρ : Numbering) → length (declaration_codes i ds ρ) ≡ 8 * length ds
-unfolding declaration_codes
-declarations-long i [] ρ = refl
-declarations-long i (x ∷ ds) ρ =
-    let a = length-append (declaration_code i no_ending x ρ) (declaration_codes (i + 3 + type_width x.type) ds ρ) in
-    let b = declaration-eight i no_ending x ρ in
-    let c = declarations-long (i + 3 + type_width x.type) ds ρ in
-    omega arith
-
-parameters-long : (i : ℕ) (xs : List Parameter) (ρ : Numbering) → length (parameter_codes i xs ρ) ≡ 8 * length xs
-unfolding parameter_codes
-parameters-long i [] ρ = refl
-parameters-long i (x ∷ xs) ρ =
-    let a = length-append (declaration_code i (ending_of x.direction) x.declaration ρ) (parameter_codes (i + 3 + type_width x.declaration.type) xs ρ) in
-    let b = declaration-eight i (ending_of x.direction) x.declaration ρ in
-    let c = parameters-long (i + 3 + type_width x.declaration.type) xs ρ in
-    omega arith
-
-state-long : (i : ℕ) (s : State) (ρ : Numbering)
-    → length (state_codes i s ρ) ≡ 4 + length (declaration_codes (suc i) (declarations s) ρ) + length (condition_codes (predicate_at i s) s.predicate ρ)
-unfolding state_codes
-state-long i s ρ =
-    let l = length-append (declaration_codes (suc i) (declarations s) ρ) (condition_codes (predicate_at i s) s.predicate ρ) in
-    omega arith
 
 -- ---- the arrangement
 

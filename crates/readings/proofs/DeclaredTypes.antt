@@ -2,7 +2,7 @@
 -- stands once for each side: `-inside` and `_types`, since the concrete state's declarations stand behind the abstract one's, and their types are written over them.
 use mathlib.Core.Path.{◌≡◌, refl, ap, ◌∙◌, subst}
 use mathlib.Core.Logic.{◌⊎◌, inl, inr}
-use mathlib.Core.List.{List, [], ◌∷◌}
+use mathlib.Core.List.{List, ◌∷◌}
 use mathlib.Core.Option.{some, none-ne-some, some-injective}
 use Prim.Native.Nat.{ℕ, zero, suc, ◌+◌, ◌*◌, ◌<◌, ◌≤◌}
 use native.Mathlib.Omega.{arith}
@@ -14,21 +14,14 @@ use Rattle.static_rules.specs.Scope.{contexts, operation_contexts, concrete_take
 use Rattle.read_predicates.specs.NodeSpansSpans.{spans_of, span, predicate_at}
 use Rattle.value_types.proofs.DeclaredCarriers.{declarations_of}
 use Rattle.read_predicates.specs.TablePlacesDossierTable.{slots_of, operation_slots, starts_of, operation_starts, with_carriers, with_parameters, declared, table_of}
-use Rattle.readings.proofs.TablePatches.{TypesAt, carriers_grow, carriers_off, types-kept, types-here, Apart, apart_none, predicates-off, apart}
+use Rattle.readings.proofs.TablePatches.{TypesAt, carriers_off, types-kept, types-here, Apart, apart_none, predicates-off, apart}
 use Rattle.readings.proofs.ArrangedParts.{OperationsFrom, none_left, one_left, operations-end, Arranged}
+use Rattle.read_predicates.proofs.TablesStandingPieces.{carriers_grow, parameters-grow}
 
 -- the parameters of the operation x stand behind n
 record Within (spans : List ℕ) (end n x : ℕ) (o : Operation) : Type 0 where
   after : n ≤ span spans (9 + 4 * x)
   before : span spans (9 + 4 * x) + 8 * length o.parameters ≤ end
-
-parameters-grow : (gs : List Given) (spans : List ℕ) (k : ℕ) (os : List Operation) (out : List ℕ) → length out ≤ length (with_parameters gs spans k os out)
-unfolding with_parameters
-parameters-grow gs spans k [] out = omega arith
-parameters-grow gs spans k (o ∷ os) out =
-    let h = carriers_grow gs (span spans (9 + 4 * k)) (declarations_of o.parameters) out in
-    let g = parameters-grow gs spans (suc k) os (with_carriers gs (span spans (9 + 4 * k)) (declarations_of o.parameters) out) in
-    omega arith
 
 module _ {spans : List ℕ} {ρ : Numbering} {end : ℕ} where
   operation-within : {n k : ℕ} {os : List Operation} → OperationsFrom spans ρ end n k os → (j : ℕ) (o : Operation) → get_elem? os j ≡ some o → (x : ℕ) → x ≡ k + j

@@ -31,9 +31,9 @@ use Rattle.value_types.proofs.DeclaredCarriers.{declarations_of, parameters-are}
 use Rattle.value_types.proofs.SymbolNumbers.{text-numbers}
 use Rattle.value_types.proofs.FineContexts.{DossierFaultless, dossier-faultless}
 use Rattle.table_nodes.specs.TableWalkPromises.{patch}
-use Rattle.read_predicates.specs.TablePlacesDossierTable.{row, state_row, parameter_row, operation_rows, groups_of}
+use Rattle.read_predicates.specs.TablePlacesDossierTable.{row, state_row, parameter_row, operation_rows, groups_of, table_of}
 use Rattle.read_predicates.specs.SearchGroupsGroupPromises.{FewParameters, FewEach, few_none, few_more}
-use Rattle.read_predicates.proofs.SearchGroupsGroupPicks.{parameter-count, row-length}
+use Rattle.read_predicates.proofs.SearchGroupsGroupPicks.{state-count, parameter-count, row-length}
 use Rattle.read_predicates.proofs.TablesDeclaredPlaces.{variables-few}
 use Rattle.read_predicates.specs.ReaderPromises.{Written}
 use Rattle.read_predicates.specs.ReaderGives.{Gives}
@@ -139,11 +139,6 @@ module _ {groups : List ℕ} (spans : List ℕ) where
 
 -- ---- the reading
 
-state-row-long : (q : ℕ) (ds : List Declaration) → length (state_row q ds) ≡ length ds
-unfolding state_row
-state-row-long q [] = refl
-state-row-long q (x ∷ ds) = ap suc (state-row-long (q + 8) ds)
-
 -- where the rows of the states and of the operations begin
 pub record Rows (d : Dossier) (ρ : Numbering) (groups : List ℕ) : Type 0 where
   pub behind_abstracts : List ℕ
@@ -163,8 +158,8 @@ groups-rows d ρ groups₀ groups h k e =
     let C : List ℕ = row 8 c in
     let R : List ℕ = operation_rows (spans_of d ρ) 0 d.operations in
     let rest : List ℕ = drop (0 + length (groups_of d ρ)) groups₀ in
-    let m = state-row-long (span (spans_of d ρ) 0) (declarations d.abstract) in
-    let n = state-row-long (span (spans_of d ρ) 3) (declarations d.concrete) in
+    let m = state-count (span (spans_of d ρ) 0) (declarations d.abstract) in
+    let n = state-count (span (spans_of d ρ) 3) (declarations d.concrete) in
     let la : length A ≡ 9 = row-length 8 a (omega arith) in
     let lc : length C ≡ 9 = row-length 8 c (omega arith) in
     let s₀ : Split groups 0 (A ++ (C ++ (R ++ rest))) =
@@ -180,6 +175,33 @@ groups-rows d ρ groups₀ groups h k e =
       operations = split-move (omega arith) s₂;
     }
 
+-- the nodes of a dossier at the front of an array
+pub codes-long : (nodes : List ℕ) (d : Dossier) (ρ : Numbering) (m : ℕ) → m ≤ length nodes → take m nodes ≡ dossier_codes d ρ → length (dossier_codes d ρ) ≡ m
+codes-long nodes d ρ m h u = ap length (sym u) ∙ length-take-le m nodes h
+
+-- where `read` leaves the rows and the types of a dossier's variables
+module _ {text spans₀ table₀ groups₀ rows₀ firsts₀ spans table groups rows firsts : List ℕ} {d : Dossier} (given : Gives text d)
+    (w : Written text d spans₀ table₀ groups₀ rows₀ firsts₀ spans table groups rows firsts) where
+  pub rows-placed : Rows d (numbering text) groups
+  rows-placed = groups-rows d (numbering text) groups₀ groups given.variables.abstract given.variables.concrete w.groups_are
+
+  pub operation-placed : (j : ℕ) (o : Operation) → get_elem? d.operations j ≡ some o → RowsOf groups (spans_of d (numbering text)) (18 + 8 * j) j o
+  operation-placed j o t =
+      rows_of (spans_of d (numbering text)) 0 18 d.operations rows-placed.behind_operations given.variables.parameters rows-placed.operations j o t j (18 + 8 * j) (omega arith) refl
+
+  module _ (room : length (dossier_codes d (numbering text)) ≤ length table₀) where
+    typed : {q : ℕ} {ds : List Declaration} → TypesAt (table_of d (numbering text) table₀) d.givens q ds → TypesAt table d.givens q ds
+    typed {q} {ds} a = subst (λ (t : List ℕ). TypesAt t d.givens q ds) (sym w.table_is) a
+
+    pub abstracts-typed : TypesAt table d.givens (span (spans_of d (numbering text)) 0) (declarations d.abstract)
+    abstracts-typed = typed (abstract_types d (numbering text) (arranged d (numbering text)) table₀ room)
+
+    pub concretes-typed : TypesAt table d.givens (span (spans_of d (numbering text)) 3) (declarations d.concrete)
+    concretes-typed = typed (concrete_types d (numbering text) (arranged d (numbering text)) table₀ room)
+
+    pub operation-typed : (j : ℕ) (o : Operation) → get_elem? d.operations j ≡ some o → TypesAt table d.givens (span (spans_of d (numbering text)) (9 + 4 * j)) (declarations_of o.parameters)
+    operation-typed j o t = typed (operation-types d (numbering text) (arranged d (numbering text)) table₀ room j o t)
+
 -- what `read` leaves of a text that is read, in an array of 16,384 numbers for the table
 pub read-reading : (text nodes spans₀ table₀ groups₀ rows₀ firsts₀ spans table groups rows firsts : List ℕ) (d : Dossier) (m : ℕ) → read text ≡ reading d
     → m ≤ length nodes → take m nodes ≡ dossier_codes d (numbering text) → m ≤ 16384 → m ≤ length table₀ → length table ≤ 16384
@@ -192,8 +214,7 @@ read-reading text nodes spans₀ table₀ groups₀ rows₀ firsts₀ spans tabl
       let i = abstract-inside d ρ A in
       let q = long in
       group_at
-      (state-noded table gs few no_ending (subst (λ (t : List ℕ). TypesAt t gs (span s 0) (declarations d.abstract)) (sym w.table_is) (abstract_types d ρ A table₀ room))
-      fine.abstract numbers.abstract_types (omega arith))
+      (state-noded table gs few no_ending (abstracts-typed given w room) fine.abstract numbers.abstract_types (omega arith))
       0 8 places.behind_abstracts places.abstracts 8 4096 (omega arith) counts.0;
   concretes =
       let n = variables-few gs no_ending (declarations d.concrete) in
@@ -201,8 +222,7 @@ read-reading text nodes spans₀ table₀ groups₀ rows₀ firsts₀ spans tabl
       let i = concrete-inside d ρ A in
       let q = long in
       group_at
-      (state-noded table gs few no_ending (subst (λ (t : List ℕ). TypesAt t gs (span s 3) (declarations d.concrete)) (sym w.table_is) (concrete_types d ρ A table₀ room))
-      fine.concrete numbers.concrete_types (omega arith))
+      (state-noded table gs few no_ending (concretes-typed given w room) fine.concrete numbers.concrete_types (omega arith))
       9 8 places.behind_concretes places.concretes 8 4096 (omega arith) counts.1;
   operations = given.variables.operations;
   inputs_at = ins;
@@ -214,9 +234,6 @@ read-reading text nodes spans₀ table₀ groups₀ rows₀ firsts₀ spans tabl
 
     gs : List Given
     gs = d.givens
-
-    s : List ℕ
-    s = spans_of d ρ
 
     given : Gives text d
     given = read-gives text d e
@@ -234,36 +251,27 @@ read-reading text nodes spans₀ table₀ groups₀ rows₀ firsts₀ spans tabl
     A = arranged d ρ
 
     long : length (dossier_codes d ρ) ≡ m
-    long = ap length (sym u) ∙ length-take-le m nodes h
+    long = codes-long nodes d ρ m h u
 
     room : length (dossier_codes d ρ) ≤ length table₀
     room = let q = long in omega arith
 
     places : Rows d ρ groups
-    places = groups-rows d ρ groups₀ groups given.variables.abstract given.variables.concrete w.groups_are
+    places = rows-placed given w
 
     counts : (binding_count (unprimed d d.abstract) ≤ 4096) × (binding_count (unprimed d d.concrete) ≤ 4096)
         × (operation_bindings d (operations_at d) d.operations ≡ [])
     counts = state-bindings d given.bindings
 
-    types : (j : ℕ) (o : Operation) → get_elem? d.operations j ≡ some o → TypesAt table d.givens (span (spans_of d ρ) (9 + 4 * j)) (declarations_of o.parameters)
-    types j o t =
-        subst (λ (x : List ℕ). TypesAt x d.givens (span (spans_of d ρ) (9 + 4 * j)) (declarations_of o.parameters)) (sym w.table_is)
-        (operation-types d ρ A table₀ room j o t)
-
     low : (j : ℕ) (o : Operation) → get_elem? d.operations j ≡ some o → span (spans_of d ρ) (9 + 4 * j) + 8 * length o.parameters ≤ 16384
     low j o t = let i = operation-inside d ρ A j o t in let q = long in omega arith
 
-    rows_at : (j : ℕ) (o : Operation) → get_elem? d.operations j ≡ some o → RowsOf groups (spans_of d ρ) (18 + 8 * j) j o
-    rows_at j o t =
-        rows_of (spans_of d ρ) 0 18 d.operations places.behind_operations given.variables.parameters places.operations j o t j (18 + 8 * j) (omega arith) refl
-
     ins : (j : ℕ) (o : Operation) → get_elem? d.operations j ≡ some o → GroupAt table groups (18 + 8 * j) (inputs d o) 3 64
     ins j o t =
-        let r = rows_at j o t in
+        let r = operation-placed given w j o t in
         subst (λ (vs : List Variable). GroupAt table groups (18 + 8 * j) vs 3 64) (sym (parameters-are d.givens inward o.parameters))
         (group_at
-        (parameters-noded table d.givens few (λ (x : Parameter). is_input x.direction) (ending_of inward) (span (spans_of d ρ) (9 + 4 * j)) o.parameters (types j o t)
+        (parameters-noded table d.givens few (λ (x : Parameter). is_input x.direction) (ending_of inward) (span (spans_of d ρ) (9 + 4 * j)) o.parameters (operation-typed given w room j o t)
         (fine.parameters o (entry-member o d.operations j t)) (within-at d.operations numbers.operations j o t) (low j o t))
         (18 + 8 * j) 3 r.behind_inputs r.inputs_row 3 64
         (subst (λ (vs : List Variable). length vs ≤ 3) (parameters-are d.givens inward o.parameters)
@@ -273,10 +281,10 @@ read-reading text nodes spans₀ table₀ groups₀ rows₀ firsts₀ spans tabl
 
     outs : (j : ℕ) (o : Operation) → get_elem? d.operations j ≡ some o → GroupAt table groups (18 + 8 * j + 4) (outputs d o) 3 64
     outs j o t =
-        let r = rows_at j o t in
+        let r = operation-placed given w j o t in
         subst (λ (vs : List Variable). GroupAt table groups (18 + 8 * j + 4) vs 3 64) (sym (parameters-are d.givens outward o.parameters))
         (group_at
-        (parameters-noded table d.givens few (λ (x : Parameter). is_output x.direction) (ending_of outward) (span (spans_of d ρ) (9 + 4 * j)) o.parameters (types j o t)
+        (parameters-noded table d.givens few (λ (x : Parameter). is_output x.direction) (ending_of outward) (span (spans_of d ρ) (9 + 4 * j)) o.parameters (operation-typed given w room j o t)
         (fine.parameters o (entry-member o d.operations j t)) (within-at d.operations numbers.operations j o t) (low j o t))
         (18 + 8 * j + 4) 3 r.behind_outputs r.outputs_row 3 64
         (subst (λ (vs : List Variable). length vs ≤ 3) (parameters-are d.givens outward o.parameters)

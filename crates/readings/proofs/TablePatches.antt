@@ -65,15 +65,6 @@ pub data TypesAt (table : List ℕ) (gs : List Given) : (q : ℕ) → List Decla
       → TypesAt table gs (q + 8) ds → TypesAt table gs q (d ∷ ds)
 
 module _ (gs : List Given) where
-  pub carriers_grow : (q : ℕ) (ds : List Declaration) (out : List ℕ) → length out ≤ length (with_carriers gs q ds out)
-  unfolding with_carriers
-  carriers_grow q [] out = omega arith
-  carriers_grow q (x ∷ ds) out =
-      let t : List ℕ = type_table x.type gs in
-      let h = patch-grows (q + 4) t out in
-      let g = carriers_grow (q + 8) ds (patch (q + 4) t out) in
-      omega arith
-
   pub carriers_off : (q : ℕ) (ds : List Declaration) (out : List ℕ) → q + 8 * length ds ≤ length out → (i : ℕ) → Off i q (8 * length ds)
       → get_or (with_carriers gs q ds out) i 0 ≡ get_or out i 0
   unfolding with_carriers

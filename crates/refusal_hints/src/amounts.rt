@@ -3,21 +3,15 @@ use lexical::bounds::{LARGEST_NUMBER, PARAMETER_BINDINGS, SYMBOLS};
 use lexical::codes;
 use symbol_spans::{Symbols, is_name};
 
-// As much as is counted.
-pub const MANY: usize = 1000000000;
+// As many bindings are not told.
+const MANY: usize = 1000000000;
 
 // 0 among the numbers from the least one on.
 const ZERO: usize = LARGEST_NUMBER as usize;
 
-// x * n, or MANY.
-fn times(x: usize, n: usize) -> usize {
-    x.saturating_mul(n).min(MANY)
-}
-
-// x to the power n, or MANY.
-fn power(x: usize, n: usize) -> usize {
-    x.saturating_pow(u32::try_from(n).unwrap_or(u32::MAX))
-        .min(MANY)
+// x to the power n, where a number has room for it.
+fn power(x: usize, n: usize) -> Option<usize> {
+    x.checked_pow(u32::try_from(n).ok()?)
 }
 
 // The end of a range at symbol s, counted from the least number on, where a dash may stand before it.
@@ -39,7 +33,7 @@ fn second_end(y: &Symbols<'_>, s: usize) -> usize {
 }
 
 // How many numbers a range has, with its .. at symbol s; 0 where the first is the larger one.
-// Form 1: 0 is how many numbers such a range has; with an Option `type_values`, whose products take it so, would turn `None` back into 0.
+// Form 1: 0 is how many numbers such a range has, and so `type_values` takes it; `None` is what it answers for too many.
 pub fn range_numbers(y: &Symbols<'_>, s: usize) -> usize {
     let a = end_at(y, s.saturating_sub(1));
     let b = end_at(y, second_end(y, s));
@@ -67,27 +61,27 @@ fn elements(y: &Symbols<'_>, t: usize) -> usize {
 
 // How many pairs the type has of the given sets whose names stand at two symbols.
 pub fn pairs(y: &Symbols<'_>, s: usize, t: usize) -> usize {
-    times(elements(y, s), elements(y, t))
+    elements(y, s).saturating_mul(elements(y, t))
 }
 
-// How many values the type has that begins with the name of a given set at symbol s.
-fn set_values(y: &Symbols<'_>, s: usize) -> usize {
+// How many values the type has that begins with the name of a given set at symbol s, where a number has room for it.
+fn set_values(y: &Symbols<'_>, s: usize) -> Option<usize> {
     let k = elements(y, s);
     let l = elements(y, s.saturating_add(2));
     match y.kind(s.saturating_add(1)) {
-        codes::RELATION => power(2, times(k, l)),
+        codes::RELATION => power(2, k.saturating_mul(l)),
         codes::PARTIAL => power(l.saturating_add(1), k),
         codes::TOTAL => power(l, k),
-        _ => k,
+        _ => Some(k),
     }
 }
 
-// How many values the type has that begins at symbol s.
-fn type_values(y: &Symbols<'_>, s: usize) -> usize {
+// How many values the type has that begins at symbol s, where a number has room for it.
+fn type_values(y: &Symbols<'_>, s: usize) -> Option<usize> {
     match y.kind(s) {
         codes::POWER => power(2, elements(y, s.saturating_add(1))),
-        codes::NUMBER => range_numbers(y, s.saturating_add(1)),
-        codes::DASH => range_numbers(y, s.saturating_add(2)),
+        codes::NUMBER => Some(range_numbers(y, s.saturating_add(1))),
+        codes::DASH => Some(range_numbers(y, s.saturating_add(2))),
         _ => set_values(y, s),
     }
 }
@@ -102,19 +96,22 @@ fn is_variable(y: &Symbols<'_>, s: usize, kind: u8) -> bool {
     y.kind(s) == kind && y.kind(s.saturating_add(1)) == codes::COLON
 }
 
-// How many bindings the variables of a kind have that are declared behind the heading at symbol s.
-pub fn bindings(y: &Symbols<'_>, s: usize, kind: u8) -> usize {
+// How many bindings the variables of a kind have that are declared behind the heading at symbol s; none where they are too many to be told.
+pub fn bindings(y: &Symbols<'_>, s: usize, kind: u8) -> Option<usize> {
     (s.saturating_add(1)..SYMBOLS)
         .take_while(|&k| !ends(y.kind(k)))
         .filter(|&k| is_variable(y, k, kind))
-        .fold(1, |r, k| times(r, type_values(y, k.saturating_add(2))))
+        .try_fold(1usize, |r, k| {
+            type_values(y, k.saturating_add(2)).and_then(|n| r.checked_mul(n))
+        })
+        .filter(|n| *n < MANY)
 }
 
 // How many bindings the inputs have of the operation at symbol s, or the outputs where those are not too many.
-pub fn parameter_bindings(y: &Symbols<'_>, s: usize) -> usize {
-    let n = bindings(y, s, codes::INPUT);
-    if n <= PARAMETER_BINDINGS as usize {
+pub fn parameter_bindings(y: &Symbols<'_>, s: usize) -> Option<usize> {
+    let inputs = bindings(y, s, codes::INPUT);
+    if inputs.is_some_and(|n| n <= PARAMETER_BINDINGS as usize) {
         return bindings(y, s, codes::OUTPUT);
     }
-    n
+    inputs
 }

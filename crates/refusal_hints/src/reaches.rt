@@ -19,7 +19,11 @@ fn reaches(text: &[u8], p: usize, letters: Span, ending: Ending) -> bool {
     if let Some(b) = byte_of(ending) {
         sample.put(b);
     }
-    let answer = tried(text, p, symbol_end(text, p), sample.as_slice());
+    let symbol = Span {
+        from: p,
+        to: symbol_end(text, p),
+    };
+    let answer = tried(text, symbol, sample.as_slice());
     let unknown = Fault {
         refusal: Refusal::NameUnknown,
         place: p,

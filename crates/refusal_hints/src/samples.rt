@@ -2,9 +2,10 @@
 ghost use Rattle.std.specs.Prelude.{◌≡◌, None, IfSome, true, false};
 
 use bounded_texts::BoundedText;
-use phrases::texts::word;
+use phrases::texts::{CODES, word};
 use phrases::words::SPELLINGS;
 use refusals::{Fault, Refusal};
+use text_places::Span;
 use tried_texts::{TRIAL, tried};
 
 // Words that are tried in a text: as many bytes as tell of a text that it is too long.
@@ -18,8 +19,6 @@ const CLASSES: usize = 5;
 
 // The codes behind these stand for no symbol, up to the first mark's.
 const FIRST_MARK: usize = 9;
-
-const CODES: usize = 64;
 
 // Is a text read on past a fault, by this answer: is it not refused so? Refusals before the least one say nothing of it.
 pub fn is_past(answer: Option<Fault>, least: Refusal, fault: Fault) -> bool
@@ -38,7 +37,11 @@ fn stands(text: &[u8], p: usize, code: usize) -> bool {
     } else {
         sample.put_all(word(&SPELLINGS, code));
     }
-    let answer = tried(text, p, text.len(), sample.as_slice());
+    let rest = Span {
+        from: p,
+        to: text.len(),
+    };
+    let answer = tried(text, rest, sample.as_slice());
     let fault = Fault {
         refusal: Refusal::NoDossier,
         place: p.saturating_add(1),

@@ -5,7 +5,7 @@ use lexical::bounds::{PAIRS, PARAMETER_BINDINGS, RANGE_NUMBERS, STATE_BINDINGS, 
 use lexical::codes;
 use pages::Page;
 use phrases::words;
-use refusal_hints::amounts::{MANY, bindings, pairs, parameter_bindings, range_numbers};
+use refusal_hints::amounts::{bindings, pairs, parameter_bindings, range_numbers};
 use refusal_hints::headings::{first_declared, passed, wanted};
 use refusal_hints::reaches::say_names;
 use refusal_hints::samples::could_stand;
@@ -73,11 +73,10 @@ fn say_amount(y: &Symbols<'_>, s: usize, page: &mut Page) {
 }
 
 // Number 12: so many bindings of a group, and how many it may have.
-fn say_count(n: usize, most: usize, page: &mut Page) {
-    if MANY <= n {
-        page.say_of(words::BINDINGS_NOT_TOLD, 0, most, most);
-    } else {
-        page.say_of(words::BINDINGS_OF_A_GROUP, 0, n, most);
+fn say_count(bindings: Option<usize>, most: usize, page: &mut Page) {
+    match bindings {
+        Some(n) => page.say_of(words::BINDINGS_OF_A_GROUP, 0, n, most),
+        None => page.say_of(words::BINDINGS_NOT_TOLD, 0, most, most),
     }
 }
 

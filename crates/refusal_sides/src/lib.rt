@@ -2,7 +2,7 @@
 // and where this is not refused by 10 at its sign, the side is of that type. Sizes are tried in the same manner, by sums that are refused by 13.
 #![tactic(auto)]
 
-use crate::trials::{Side, Term, fits, size_of};
+use crate::trials::{Term, Trial};
 use lexical::bounds::SYMBOLS;
 use lexical::codes;
 use pages::Page;
@@ -35,30 +35,30 @@ fn is_set(y: &Symbols<'_>, s: usize) -> bool {
 }
 
 // The sets of pairs that the side is of, where their first parts are of the given set whose name stands at a byte.
-fn pairs_from(y: &Symbols<'_>, x: Side, first: usize) -> Option<Term> {
+fn pairs_from(y: &Symbols<'_>, x: &Trial<'_>, first: usize) -> Option<Term> {
     (0..SYMBOLS)
         .filter(|&s| is_set(y, s))
         .map(|s| Term::Pairs(first, y.start(s.saturating_add(1))))
-        .find(|&pairs| fits(y.text, x, pairs))
+        .find(|&pairs| x.fits(pairs))
 }
 
 // The type of the given set at symbol s that the side is of.
-fn type_by(y: &Symbols<'_>, x: Side, s: usize) -> Option<Term> {
+fn type_by(y: &Symbols<'_>, x: &Trial<'_>, s: usize) -> Option<Term> {
     let name = y.start(s.saturating_add(1));
     let element = Term::Element(name, y.start(s.saturating_add(2)));
-    if fits(y.text, x, element) {
+    if x.fits(element) {
         return Some(element);
     }
     let set = Term::Set(name);
-    if fits(y.text, x, set) {
+    if x.fits(set) {
         return Some(set);
     }
     pairs_from(y, x, name)
 }
 
 // The type that the side is of.
-fn type_of(y: &Symbols<'_>, x: Side) -> Option<Term> {
-    if fits(y.text, x, Term::Number) {
+fn type_of(y: &Symbols<'_>, x: &Trial<'_>) -> Option<Term> {
+    if x.fits(Term::Number) {
         return Some(Term::Number);
     }
     (0..SYMBOLS)
@@ -87,14 +87,15 @@ fn say_type(text: &[u8], t: Option<Term>, page: &mut Page) {
 
 // The symbols of a side on the page: their bytes, and their size or type.
 fn say_side(y: &Symbols<'_>, side: Span, whole: Span, title: usize, told: Told, page: &mut Page) {
-    let x = Side {
+    let x = Trial {
+        text: y.text,
         own: bytes_of(y, side),
         atom: bytes_of(y, whole),
     };
     page.say_of(title, 0, x.own.from, x.own.to);
     match told {
-        Told::Sizes => page.say_of(words::A_SIZE, 0, size_of(y.text, x), 0),
-        Told::Types => say_type(y.text, type_of(y, x), page),
+        Told::Sizes => page.say_of(words::A_SIZE, 0, x.size(), 0),
+        Told::Types => say_type(y.text, type_of(y, &x), page),
     }
 }
 

@@ -16,9 +16,10 @@ const LARGEST: usize = LARGEST_SIZE as usize;
 // The bits of a size.
 const BITS: usize = 31;
 
-// The bytes of a side, and those of the atom that it stands in.
+// A side that is tried: the text, the bytes of the side, and those of the atom that it stands in.
 #[derive(Clone, Copy)]
-pub struct Side {
+pub struct Trial<'a> {
+    pub text: &'a [u8],
     pub own: Span,
     pub atom: Span,
 }
@@ -43,15 +44,6 @@ fn put_name(text: &[u8], from: usize, out: &mut Sample) {
     ));
 }
 
-// The side in brackets.
-fn bracketed(text: &[u8], x: Side) -> Sample {
-    let mut out = Sample::new();
-    out.put(b'[');
-    out.put_all(part(text, x.own));
-    out.put(b']');
-    out
-}
-
 // The term behind a blank.
 fn put_term(text: &[u8], t: Term, out: &mut Sample) {
     match t {
@@ -71,24 +63,6 @@ fn put_term(text: &[u8], t: Term, out: &mut Sample) {
             put_name(text, second, out);
         }
     }
-}
-
-// What reading answers with these words in the place of the side's atom.
-fn answer_with(text: &[u8], x: Side, words: &Sample) -> Option<Fault> {
-    tried(text, x.atom.from, x.atom.to, words.as_slice())
-}
-
-// Is the side of the type of a term? Refusals of passes before say nothing of it.
-pub fn fits(text: &[u8], x: Side, t: Term) -> bool {
-    let mut words = bracketed(text, x);
-    let sign = x.atom.from.saturating_add(words.as_slice().len());
-    words.put(b'=');
-    put_term(text, t, &mut words);
-    let misfit = Fault {
-        refusal: Refusal::TypesMisfit,
-        place: sign,
-    };
-    is_past(answer_with(text, x, &words), Refusal::NameInUse, misfit)
 }
 
 // A digit as a byte.
@@ -123,25 +97,54 @@ fn put_sum(number: usize, out: &mut Sample) {
     }
 }
 
-// Is the sum of the side and a number refused as too large?
-fn is_over(text: &[u8], x: Side, number: usize) -> bool {
-    let mut words = bracketed(text, x);
-    put_sum(number, &mut words);
-    words.put_all(b"=0");
-    let end = x.atom.from.saturating_add(words.as_slice().len());
-    answer_with(text, x, &words).is_some_and(|f| {
-        f.refusal == Refusal::LargeSize && x.atom.from <= f.place && f.place < end
-    })
-}
-
-// The size of the side: what the largest size is more than the largest number with which the side is not too large, found bit by bit.
-pub fn size_of(text: &[u8], x: Side) -> usize {
-    let mut low: usize = 0;
-    for k in (0..BITS).rev() {
-        let more = low.saturating_add(1 << k);
-        if !is_over(text, x, more) {
-            low = more;
-        }
+impl Trial<'_> {
+    // The side in brackets.
+    fn bracketed(&self) -> Sample {
+        let mut out = Sample::new();
+        out.put(b'[');
+        out.put_all(part(self.text, self.own));
+        out.put(b']');
+        out
     }
-    LARGEST.saturating_sub(low)
+
+    // What reading answers with these words in the place of the side's atom.
+    fn answer_with(&self, words: &Sample) -> Option<Fault> {
+        tried(self.text, self.atom, words.as_slice())
+    }
+
+    // Is the side of the type of a term? Refusals of passes before say nothing of it.
+    pub fn fits(&self, t: Term) -> bool {
+        let mut words = self.bracketed();
+        let sign = self.atom.from.saturating_add(words.as_slice().len());
+        words.put(b'=');
+        put_term(self.text, t, &mut words);
+        let misfit = Fault {
+            refusal: Refusal::TypesMisfit,
+            place: sign,
+        };
+        is_past(self.answer_with(&words), Refusal::NameInUse, misfit)
+    }
+
+    // Is the sum of the side and a number refused as too large?
+    fn is_over(&self, number: usize) -> bool {
+        let mut words = self.bracketed();
+        put_sum(number, &mut words);
+        words.put_all(b"=0");
+        let from = self.atom.from;
+        let end = from.saturating_add(words.as_slice().len());
+        self.answer_with(&words).is_some_and(|f| f.refusal == Refusal::LargeSize
+            && (from..end).contains(&f.place))
+    }
+
+    // The size of the side: what the largest size is more than the largest number with which the side is not too large, found bit by bit.
+    pub fn size(&self) -> usize {
+        let mut low: usize = 0;
+        for k in (0..BITS).rev() {
+            let more = low.saturating_add(1 << k);
+            if !self.is_over(more) {
+                low = more;
+            }
+        }
+        LARGEST.saturating_sub(low)
+    }
 }

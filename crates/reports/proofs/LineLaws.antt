@@ -1,6 +1,5 @@
 -- The lines of a report piece by piece: the first line of a refuted check by its part.
 use mathlib.Core.Path.{◌≡◌, sym, ap, subst, ◌∙◌}
-use mathlib.Core.Bool.{true}
 use mathlib.Core.List.{List, [], ◌∷◌, map}
 use mathlib.Core.Option.{some, none-ne-some, some-injective}
 use Prim.Native.Nat.{ℕ, zero, suc, ◌+◌, ◌<◌, ◌≤◌}
@@ -18,7 +17,7 @@ use Rattle.pieces.specs.declared.Writer.{Writer}
 use Rattle.pieces.proofs.WrittenPieces.{both-added, letters-length}
 use Rattle.labels.specs.Labels.{LabelsOf}
 use Rattle.witnesses.proofs.LinesLabelledLines.{spelt-letters}
-use Rattle.reports.specs.ReportPromises.{ObligationIn, listed, AddsLine}
+use Rattle.reports.specs.ReportPromises.{ObligationIn, AddsLine}
 
 -- the name of the operation at a place
 title-at : (os : List Operation) (j : ℕ) (op : Operation) → get_elem? os j ≡ some op → get_or (map (λ (o : Operation). o.title) os) j [] ≡ op.title
@@ -67,9 +66,6 @@ module _ {text labels : List ℕ} {old new : Writer} where
     unfolding bytes refuted_line
     correcting-line w = titled-line k w v u (omega arith) (λ d l i. both-added (both-added w (titled k l i v)) u)
 
--- where an obligation is a case of the enum, its line is that of the case, and its operation is one of 16
+-- where an obligation is a case of the enum, its line is that of the case
 pub line-for : {text labels : List ℕ} {old new : Writer} {o p : code.Obligation} → o ≡ p → AddsLine text labels (obligation_is p) old new → AddsLine text labels (obligation_is o) old new
 line-for {text} {labels} {old} {new} e w = subst (λ (x : code.Obligation). AddsLine text labels (obligation_is x) old new) (sym e) w
-
-pub listed-for : {o p : code.Obligation} → o ≡ p → listed (obligation_is o) ≡ true → listed (obligation_is p) ≡ true
-listed-for e h = subst (λ (x : code.Obligation). listed (obligation_is x) ≡ true) e h

@@ -1,16 +1,16 @@
 -- Room for the lines of a report, and the lines piece by piece: the line with the count, the line of a refusal.
 use mathlib.Core.Path.{◌≡◌, subst}
-use mathlib.Core.List.{List, [], ◌∷◌, ◌++◌}
+use mathlib.Core.List.{List, ◌++◌}
 use Prim.Native.Nat.{ℕ, ◌+◌, ◌^◌, ◌<◌, ◌≤◌}
 use native.Mathlib.Omega.{arith}
 use lib.ListN.{length, length-append}
 use Rattle.lexical.specs.Lists.{bytes}
-use Rattle.obligations.specs.Order.{Obligation}
 use Rattle.obligations.specs.Report.{decimal}
-use Rattle.pieces.specs.PiecePromises.{Writes, letters_at}
-use Rattle.pieces.proofs.WrittenPieces.{both-written, letters-length}
+use Rattle.pieces.specs.PiecePromises.{Writes, Adds, letters_at}
+use Rattle.pieces.specs.declared.Writer.{Writer}
+use Rattle.pieces.proofs.WrittenPieces.{letters-length}
 use Rattle.pieces.proofs.Digits.{decimal-length}
-use Rattle.reports.specs.ReportPromises.{refusal_piece, LineWritten, VerdictWritten}
+use Rattle.reports.specs.ReportPromises.{refusal_piece}
 
 module _ {at m q : ℕ} {a b c : List ℕ} where
   pub count_room : (n : ℕ) → Writes at (bytes "bindings ") a b m → Writes m (decimal n) b c q → n < 2 ^ 64 → at + 30 ≤ length a → q < length c
@@ -22,7 +22,7 @@ module _ {at m q : ℕ} {a b c : List ℕ} where
       → q < length c
   title-room text p n w v l k = omega (arith, w.end, w.long, v.end, v.long, l, letters-length text p)
 
-module _ (n : ℕ) {m q : ℕ} {a b c : List ℕ} (w : Writes 0 (bytes "refused ") a b m) (v : Writes m (decimal n) b c q) (h : n < 2 ^ 64) (k : 53 ≤ length a) where
+module _ (n : ℕ) {at m q : ℕ} {a b c : List ℕ} (w : Writes at (bytes "refused ") a b m) (v : Writes m (decimal n) b c q) (h : n < 2 ^ 64) (k : at + 53 ≤ length a) where
   pub at_room : q + 4 ≤ length c
   unfolding bytes
   at_room = omega (arith, w.end, w.long, v.end, v.long, decimal-length n h)
@@ -37,10 +37,6 @@ module _ (n : ℕ) {m q : ℕ} {a b c : List ℕ} (w : Writes 0 (bytes "refused 
       unfolding bytes
       newline-room = omega (arith, w.end, w.long, v.end, v.long, u.end, u.long, x.end, x.long, decimal-length n h, decimal-length p g)
 
-      pub refusal-written : {r : ℕ} {z : List ℕ} → Writes t (10 ∷ []) f z r → Writes 0 (refusal_piece n p) a z r
-      unfolding bytes
-      refusal-written y = both-written (both-written (both-written (both-written w v) u) x) y
-
 pub refusal-short : (n p : ℕ) → n < 2 ^ 64 → p < 2 ^ 64 → length (refusal_piece n p) ≤ 53
 unfolding bytes
 refusal-short n p h g =
@@ -50,14 +46,6 @@ refusal-short n p h g =
     let d = length-append (bytes "refused ") (decimal n) in
     omega (arith, decimal-length n h, decimal-length p g)
 
--- what was written through the lent bytes stands in them
-pub refusal_in : (p : ℕ) {n k r : ℕ} {a b c : List ℕ} → n ≡ k → Writes 0 (refusal_piece n p) a b r → b ≡ c → Writes 0 (refusal_piece k p) a c r
-refusal_in p {k = k} {r} {a} {b} f w e = subst (λ (l : List ℕ). Writes 0 (refusal_piece k p) a l r) e (subst (λ (n : ℕ). Writes 0 (refusal_piece n p) a b r) f w)
-
-pub line_in : {text labels before after out : List ℕ} {o : Obligation} {r : ℕ} → LineWritten text labels o 0 before after r → after ≡ out → LineWritten text labels o 0 before out r
-line_in {text} {labels} {before} {o = o} {r} w e = subst (λ (l : List ℕ). LineWritten text labels o 0 before l r) e w
-
-pub verdict_in : {text labels table rows firsts groups before after out : List ℕ} {operations r : ℕ} → VerdictWritten text labels table rows firsts groups operations before after r → after ≡ out
-    → VerdictWritten text labels table rows firsts groups operations before out r
-verdict_in {text} {labels} {table} {rows} {firsts} {groups} {before} {operations = operations} {r} w e =
-    subst (λ (l : List ℕ). VerdictWritten text labels table rows firsts groups operations before l r) e w
+-- the number of a refusal that is written is that of the line
+pub refusal-for : (p : ℕ) {n k : ℕ} {u v : Writer} → n ≡ k → Adds (refusal_piece n p) u v → Adds (refusal_piece k p) u v
+refusal-for p {u = u} {v} e w = subst (λ (n : ℕ). Adds (refusal_piece n p) u v) e w

@@ -22,6 +22,7 @@ use Rattle.held_checks.specs.Answers.{obligation_is}
 use Rattle.labels.specs.Labels.{LabelsOf}
 use Rattle.table_nodes.specs.TableWalkPromises.{patch}
 use Rattle.pieces.specs.PiecePromises.{Writes}
+use Rattle.pieces.specs.declared.Writer.{Writer}
 use Rattle.text_readings.specs.TextPromises.{ReadAs, ReadsText}
 use Rattle.reports.specs.ReportPromises.{Reported, ObligationIn, RefutedLine, listed, refusal_piece, LineWritten, VerdictAsked, VerdictWritten}
 
@@ -35,6 +36,10 @@ is-reported {text} {before} w h = record {
   length_is = w.end ∙ zero-add (length (report text));
   short = let e = w.end in omega arith;
 }
+
+-- what a writer has written is in the bytes that it was lent
+pub reported-at : {text before : List ℕ} {v w : Writer} → v ≡ w → Reported text before v.out.now v.at → Reported text before w.out.now w.at
+reported-at {text} {before} e h = subst (λ (x : Writer). Reported text before x.out.now x.at) e h
 
 abbrev many_in : Result ℕ Fault → ℕ
 many_in (Ok k) = k
@@ -76,7 +81,7 @@ module _ {text table rows firsts groups labels : List ℕ} where
       go (reading d) e = record { dossier = d; arrays = e.1.arrays; labelled = e.1.labelled; many = ap many_in e.0 }
 
   pub read-report : {k r : ℕ} {before after : List ℕ} → ReadsText text table rows firsts groups labels (Ok k)
-      → VerdictWritten text labels table rows firsts groups k before after r → Reported text before after r
+      → VerdictWritten text labels table rows firsts groups k 0 before after r → Reported text before after r
   unfolding ReadAs report
   read-report {k} {r} {before} {after} w v = is-reported (go (read text) refl w.answer) v.short
     where
@@ -97,7 +102,7 @@ module _ {text table rows firsts groups labels : List ℕ} where
   verdict-asked w e = read-asks (subst (ReadsText text table rows firsts groups labels) e w)
 
   pub verdict-reported : {t : Result ℕ Fault} {k r : ℕ} {before after : List ℕ} → ReadsText text table rows firsts groups labels t → t ≡ Ok k
-      → VerdictWritten text labels table rows firsts groups k before after r → Reported text before after r
+      → VerdictWritten text labels table rows firsts groups k 0 before after r → Reported text before after r
   verdict-reported w e v = read-report (subst (ReadsText text table rows firsts groups labels) e w) v
 
   -- the first line alone: nothing of a text that is refused, or for an operation that the dossier has not

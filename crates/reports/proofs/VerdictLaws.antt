@@ -16,7 +16,8 @@ use Rattle.parts.specs.PartTestsPartOrder.{part_size, part_begin}
 use Rattle.labels.specs.ReadingsReadings.{ReadingOf}
 use Rattle.parts.specs.SearchPromises.{SearchAsked, SearchAnswers}
 use Rattle.parts.proofs.ReadingSizes.{reading_small}
-use Rattle.pieces.specs.PiecePromises.{Writes}
+use Rattle.pieces.specs.PiecePromises.{Writes, Adds}
+use Rattle.pieces.specs.declared.Writer.{Writer}
 use Rattle.pieces.proofs.Digits.{decimal-length}
 use Rattle.pieces.proofs.WrittenPieces.{both-written}
 use Rattle.labels.specs.Labels.{LabelsOf}
@@ -27,8 +28,8 @@ use Rattle.held_checks.specs.declared.Obligation as code
 use Rattle.held_checks.specs.Answers.{obligation_is}
 use Rattle.held_checks.specs.StepPromises.{PartTold}
 use Rattle.held_checks.proofs.StepLaws.{told-case}
-use Rattle.witnesses.specs.WitnessPromises.{WitnessAsked, WitnessWritten}
-use Rattle.reports.specs.ReportPromises.{ObligationIn, listed, LineWritten, VerdictAsked, VerdictWritten}
+use Rattle.witnesses.specs.WitnessPromises.{WitnessAsked, WitnessWritten, AddsWitness}
+use Rattle.reports.specs.ReportPromises.{ObligationIn, listed, LineWritten, AddsLine, VerdictAsked, VerdictWritten, AddsVerdict}
 use Rattle.reports.proofs.VerdictLines.{came, whole-look, failed-inside, refuted-lines, accepted-lines}
 
 module _ {text labels table rows firsts groups : List ℕ} {operations : ℕ} (k : VerdictAsked text labels table rows firsts groups operations) where
@@ -80,11 +81,11 @@ pub found-at : {table rows firsts groups : List ℕ} {operations all : ℕ} {f g
 found-at {table} {rows} {firsts} {groups} {operations} {all} e s = subst (λ (x : Option ℕ). SearchAnswers table rows firsts groups operations 0 all x) e s
 
 -- the first line of the obligation at a place of a part
-module _ {text labels before after : List ℕ} {part q x : ℕ} {o : code.Obligation} (t : PartTold part o) (d : Dossier) (l : LabelsOf text labels d) (h : part < parts d) (low : q < part_size d part)
-    (w : LineWritten text labels (obligation_is o) 0 before after x) where
-  first-line : Writes 0 (refuted_line d (obligation_of (check_at (subject_of d) (part_begin d part + q)))) before after x
+module _ {text labels before after : List ℕ} {part q from x : ℕ} {o : code.Obligation} (t : PartTold part o) (d : Dossier) (l : LabelsOf text labels d) (h : part < parts d) (low : q < part_size d part)
+    (w : LineWritten text labels (obligation_is o) from before after x) where
+  first-line : Writes from (refuted_line d (obligation_of (check_at (subject_of d) (part_begin d part + q)))) before after x
   first-line =
-      subst (λ (y : Obligation). Writes 0 (refuted_line d y) before after x)
+      subst (λ (y : Obligation). Writes from (refuted_line d y) before after x)
       (told-case (λ (y : Obligation). y ≡ obligation_of (check_at (subject_of d) (part_begin d part + q))) part t (λ e. sym (obligation-opening d part q low e))
       (λ j e. sym (obligation-applying d part q low j e (omega arith))) (λ j e. sym (obligation-correcting d part q low j e (omega arith))))
       (w.line d l (told-case (ObligationIn d) part t (λ e. tt) (λ j e. omega arith) (λ j e. omega arith)))
@@ -106,11 +107,11 @@ count-short n h =
     omega arith
 
 module _ {text labels table rows firsts groups : List ℕ} {operations : ℕ} (k : VerdictAsked text labels table rows firsts groups operations) {all : ℕ}
-    (t : TotalIs table groups operations all) {before after : List ℕ} {r : ℕ} where
-  pub refuted-written : {at part q x y n : ℕ} {a b : List ℕ} {o : code.Obligation} → SearchAnswers table rows firsts groups operations 0 all (Some at) → PlaceFound table groups operations at part q
-      → PartTold part o → LineWritten text labels (obligation_is o) 0 before a x → WitnessWritten text labels table groups part q x a b y → n ≡ suc at → Writes y (count_line n) b after r
-      → VerdictWritten text labels table rows firsts groups operations before after r
-  refuted-written {at} {part} {q} {x} {y} {n} {a} {b} s p told line lines looks count = record {
+    (t : TotalIs table groups operations all) where
+  refuted-written : {at part q from x y n r : ℕ} {before a b after : List ℕ} {o : code.Obligation} → SearchAnswers table rows firsts groups operations 0 all (Some at) → PlaceFound table groups operations at part q
+      → PartTold part o → LineWritten text labels (obligation_is o) from before a x → WitnessWritten text labels table groups part q x a b y → n ≡ suc at → Writes y (count_line n) b after r
+      → VerdictWritten text labels table rows firsts groups operations from before after r
+  refuted-written {at} {part} {q} {from} {x} {y} {n} {r} {before} {a} {b} {after} s p told line lines looks count = record {
     lines = λ d g l m.
         let e = looked k t s d g m in
         let i = failed-inside d at e in
@@ -119,8 +120,8 @@ module _ {text labels table rows firsts groups : List ℕ} {operations : ℕ} (k
         let w = first-line told d l (p.within d o m i) (p.low d o m i) line in
         let v = lines.lines d o l (p.within d o m i) (p.low d o m i) in
         let u : Writes y (count_line (suc at)) b after r = subst (λ (c : ℕ). Writes y (count_line c) b after r) looks count in
-        subst (λ (z : List ℕ). Writes 0 z before after r) (sym (refuted-lines d at e))
-        (subst (λ (c : ℕ). Writes 0 (refuted_line d (obligation_of (check_at (subject_of d) c)) ++ witness_lines (subject_of d) (check_at (subject_of d) c) ++ count_line (suc at)) before after r)
+        subst (λ (z : List ℕ). Writes from z before after r) (sym (refuted-lines d at e))
+        (subst (λ (c : ℕ). Writes from (refuted_line d (obligation_of (check_at (subject_of d) c)) ++ witness_lines (subject_of d) (check_at (subject_of d) c) ++ count_line (suc at)) before after r)
         (sym h) (both-written (both-written w v) u));
     short =
         let i = place_small k t s in
@@ -128,13 +129,26 @@ module _ {text labels table rows firsts groups : List ℕ} {operations : ℕ} (k
         omega (arith, line.short, lines.short, count.end);
   }
 
-  pub accepted-written : {x : ℕ} {a : List ℕ} → SearchAnswers table rows firsts groups operations 0 all None → Writes 0 (bytes "accepted\n") before a x → Writes x (count_line all) a after r
-      → VerdictWritten text labels table rows firsts groups operations before after r
-  accepted-written {x} {a} s word count = record {
+  accepted-written : {from x r : ℕ} {before a after : List ℕ} → SearchAnswers table rows firsts groups operations 0 all None → Writes from (bytes "accepted\n") before a x
+      → Writes x (count_line all) a after r → VerdictWritten text labels table rows firsts groups operations from before after r
+  accepted-written {from} {x} {r} {before} {a} {after} s word count = record {
     lines = λ d g l m.
         let e : look (subject_of d) (checks (subject_of d)) ≡ came all false = whole-look None d s g m (t.is d (reading-groups g) m) ∙ ap (λ (n : ℕ). came n false) (least-self all) in
-        subst (λ (z : List ℕ). Writes 0 z before after r) (sym (accepted-lines d all e)) (both-written word count);
+        subst (λ (z : List ℕ). Writes from z before after r) (sym (accepted-lines d all e)) (both-written word count);
     short =
         let z = all_small k t in
         omega (arith, accepted-long, word.end, count-short all (omega arith), count.end);
   }
+
+  module _ {old new : Writer} where
+    pub refuted-added : {at part q n : ℕ} {a b : Writer} {o : code.Obligation} → SearchAnswers table rows firsts groups operations 0 all (Some at) → PlaceFound table groups operations at part q
+        → PartTold part o → AddsLine text labels (obligation_is o) old a → AddsWitness text labels table groups part q a b → n ≡ suc at → Adds (count_line n) b new
+        → AddsVerdict text labels table rows firsts groups operations old new
+    refuted-added s p told line lines looks count = record {
+      same_bytes = count.same_bytes ∙ lines.same_bytes ∙ line.same_bytes;
+      written = refuted-written s p told line.written lines.written looks count.written;
+    }
+
+    pub accepted-added : {a : Writer} → SearchAnswers table rows firsts groups operations 0 all None → Adds (bytes "accepted\n") old a → Adds (count_line all) a new
+        → AddsVerdict text labels table rows firsts groups operations old new
+    accepted-added s word count = record { same_bytes = count.same_bytes ∙ word.same_bytes; written = accepted-written s word.written count.written }

@@ -48,10 +48,10 @@ pub record VerdictAsked (text labels table rows firsts groups : List ℕ) (opera
   pub labelled : LabelsOf text labels dossier
   pub many : operations ≡ length dossier.operations
 
-pub record VerdictWritten (text labels table rows firsts groups : List ℕ) (operations : ℕ) (before after : List ℕ) (r : ℕ) : Type 0 where
+pub record VerdictWritten (text labels table rows firsts groups : List ℕ) (operations at : ℕ) (before after : List ℕ) (r : ℕ) : Type 0 where
   pub lines : (d : Dossier) → ReadingOf table rows firsts groups d → LabelsOf text labels d → operations ≡ length d.operations
-      → Writes 0 (verdict_lines (subject_of d) (look (subject_of d) (checks (subject_of d)))) before after r
-  pub short : r ≤ 19419
+      → Writes at (verdict_lines (subject_of d) (look (subject_of d) (checks (subject_of d)))) before after r
+  pub short : r ≤ at + 19419
 
 -- the first line of a refuted check, by its obligation
 pub record LineWritten (text labels : List ℕ) (o : Obligation) (at : ℕ) (before after : List ℕ) (r : ℕ) : Type 0 where
@@ -64,3 +64,7 @@ pub record LineWritten (text labels : List ℕ) (o : Obligation) (at : ℕ) (bef
 pub record AddsLine (text labels : List ℕ) (o : Obligation) (old new : Writer) : Type 0 where
   pub same_bytes : new.out.ghost_name ≡ old.out.ghost_name
   pub written : LineWritten text labels o old.at old.out.now new.out.now new.at
+
+pub record AddsVerdict (text labels table rows firsts groups : List ℕ) (operations : ℕ) (old new : Writer) : Type 0 where
+  pub same_bytes : new.out.ghost_name ≡ old.out.ghost_name
+  pub written : VerdictWritten text labels table rows firsts groups operations old.at old.out.now new.out.now new.at

@@ -5,8 +5,8 @@ ghost use Rattle.std.specs.Prelude.{◌≡◌, ◌+◌, ◌≤◌, ◌<◌, true
 ghost use Rattle.refusals.specs.Refusals.{number_of};
 ghost use Rattle.refusals.specs.RefusalNames.{refusal_is};
 ghost use Rattle.obligations.specs.Report.{count_line};
-ghost use Rattle.pieces.specs.PiecePromises.{Writes, Adds, letters_at};
-ghost use Rattle.reports.specs.ReportPromises.{Reported, RefutedLine, LineWritten, AddsLine, VerdictAsked, VerdictWritten, refusal_piece, listed};
+ghost use Rattle.pieces.specs.PiecePromises.{Adds, letters_at};
+ghost use Rattle.reports.specs.ReportPromises.{Reported, RefutedLine, AddsLine, VerdictAsked, AddsVerdict, refusal_piece, listed};
 ghost use Rattle.held_checks.specs.Answers.{obligation_is};
 
 use held_checks::{Obligation, obligation_of};
@@ -67,38 +67,35 @@ fn put_count(n: usize, w: &mut Writer<'_>)
 }
 
 // The line of a refusal.
-fn put_refusal(f: Fault, out: &mut [u8]) -> usize
-    requires { 53 ≤ length out.old }
-    ensures { Writes 0 (refusal_piece (number_of (refusal_is f.refusal)) f.place) out.old out.new result × (result ≤ 53) }
+fn put_refusal(f: Fault, w: &mut Writer<'_>)
+    requires { w.old.at + 53 ≤ length w.old.out.now }
+    ensures line { Adds (refusal_piece (number_of (refusal_is f.refusal)) f.place) w.old w.new }
+    ensures short { w.new.at ≤ w.old.at + 53 }
 {
-    let mut w = Writer { out, at: 0 };
     w.put_all(b"refused ");
     w.put_decimal(u64::from(f.refusal.number()));
     w.put_all(b" at ");
     w.put_decimal(f.place as u64);
     w.put(b'\n');
-    w.at
 }
 
 // The lines of a verdict.
-fn put_verdict(names: &Names<'_>, d: &Dossier<'_>, out: &mut [u8]) -> usize
-    requires room { 19419 ≤ length out.old }
+fn put_verdict(names: &Names<'_>, d: &Dossier<'_>, w: &mut Writer<'_>)
+    requires room { w.old.at + 19419 ≤ length w.old.out.now }
     requires asked { VerdictAsked names.now.text.now names.now.labels.now d.now.table.now d.now.rows.now d.now.firsts.now d.now.groups.now d.now.operations }
-    ensures { VerdictWritten names.now.text.now names.now.labels.now d.now.table.now d.now.rows.now d.now.firsts.now d.now.groups.now d.now.operations out.old out.new result }
+    ensures { AddsVerdict names.now.text.now names.now.labels.now d.now.table.now d.now.rows.now d.now.firsts.now d.now.groups.now d.now.operations w.old w.new }
 {
     let all = total(d);
-    let mut w = Writer { out, at: 0 };
     let found = search(d, 0, all);
     let Some(place) = found else {
         w.put_all(b"accepted\n");
-        put_count(all, &mut w);
-        return w.at;
+        put_count(all, w);
+        return;
     };
     let f = find(d, place);
-    put_refuted(names, obligation_of(f.part), &mut w);
-    put_witness(names, d, f, &mut w);
-    put_count(place + 1, &mut w);
-    w.at
+    put_refuted(names, obligation_of(f.part), w);
+    put_witness(names, d, f, w);
+    put_count(place + 1, w);
 }
 
 // The report of a text in front of the lent bytes, and its length. 1,536 KiB of stack are enough for every text, as for the calls (crates/checker).
@@ -107,17 +104,19 @@ pub fn report(text: &[u8], out: &mut [u8; REPORT]) -> usize
 {
     let mut a = Arrays::new();
     let answer = a.read(text);
+    let mut w = Writer { out, at: 0 };
     match answer {
-        Err(f) => put_refusal(f, out),
+        Err(f) => put_refusal(f, &mut w),
         Ok(operations) => {
             let names = Names {
                 text,
                 labels: &a.labels,
             };
             let d = a.dossier(operations);
-            put_verdict(&names, &d, out)
+            put_verdict(&names, &d, &mut w);
         }
     }
+    w.at
 }
 
 // Is the operation of an obligation one of the 16 that a dossier may have?
@@ -126,19 +125,8 @@ fn is_listed(o: Obligation) -> bool
 {
     match o {
         Obligation::Initialisation => true,
-        Obligation::Applicability(k) | Obligation::Correctness(k) => k < OPERATIONS as usize,
+        Obligation::Applicability(k) | Obligation::Correctness(k) => k < usize::from(OPERATIONS),
     }
-}
-
-// The first line of a refuted check, in front of the lent bytes.
-fn put_first_line(names: &Names<'_>, o: Obligation, out: &mut [u8]) -> usize
-    requires listed { listed (obligation_is o) ≡ true }
-    requires room { 39 ≤ length out.old }
-    ensures { LineWritten names.now.text.now names.now.labels.now (obligation_is o) 0 out.old out.new result }
-{
-    let mut w = Writer { out, at: 0 };
-    put_refuted(names, o, &mut w);
-    w.at
 }
 
 // The first line of the report of a text that is refuted with an obligation.
@@ -147,17 +135,17 @@ pub fn refuted_line(text: &[u8], o: Obligation, out: &mut [u8; FIRST_LINE]) -> u
 {
     let mut a = Arrays::new();
     let answer = a.read(text);
-    match answer {
-        Err(_) => 0,
-        Ok(_) => {
-            if !is_listed(o) {
-                return 0;
-            }
-            let names = Names {
-                text,
-                labels: &a.labels,
-            };
-            put_first_line(&names, o, out)
-        }
+    let Ok(_) = answer else {
+        return 0;
+    };
+    if !is_listed(o) {
+        return 0;
     }
+    let names = Names {
+        text,
+        labels: &a.labels,
+    };
+    let mut w = Writer { out, at: 0 };
+    put_refuted(&names, o, &mut w);
+    w.at
 }

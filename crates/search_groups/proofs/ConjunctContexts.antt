@@ -18,7 +18,7 @@ use Rattle.search_groups.specs.Conjuncts.{conjunct_rows, context_rows, context_f
 use Rattle.search_groups.specs.GroupPromises.{place_of, RowsAt, no_rows, more_rows, Standing, one_stands}
 use Rattle.search_groups.proofs.TableLength.{pred-length}
 use Rattle.search_groups.proofs.ConjunctRows.{conjoin_of}
-use Rattle.search_groups.proofs.GroupPicks.{spans-length}
+use Rattle.table_places.proofs.WritingAll.{starts-same, spans-length}
 
 -- the places in the spans
 place-later : (k : ℕ) → 5 ≤ k → place_of k ≡ 10 + 4 * ((k - 5) / 2) + (k - 5) % 2
@@ -77,15 +77,6 @@ twice-is (o ∷ os) = let h = twice-is os in omega arith
 -- where the predicates begin, by the spans as they stand in an array
 abbrev pub starts_by : List ℕ → Dossier → List ℕ
 starts_by s d = (span s 1 + 4) ∷ (span s 4 + 4) ∷ (span s 5 + 4) ∷ (span s 6 + 4) ∷ (span s 7 + 4) ∷ operation_starts s 0 d.operations
-
-starts-same : (s rest : List ℕ) (k : ℕ) (os : List Operation) → 9 + 4 * (k + length os) ≤ length s → operation_starts (s ++ rest) k os ≡ operation_starts s k os
-unfolding operation_starts
-starts-same s rest k [] h = refl
-starts-same s rest k (o ∷ os) h =
-    let e : span (s ++ rest) (9 + 4 * k + 1) ≡ span s (9 + 4 * k + 1) = get_or-append s rest 0 (9 + 4 * k + 1) (omega arith) in
-    let f : span (s ++ rest) (9 + 4 * k + 2) ≡ span s (9 + 4 * k + 2) = get_or-append s rest 0 (9 + 4 * k + 2) (omega arith) in
-    let r = starts-same s rest (suc k) os (omega arith) in
-    λ i. (e i + 4) ∷ (f i + 4) ∷ r i
 
 pub starts_are : (d : Dossier) (ρ : Numbering) (spans rest : List ℕ) → spans ≡ spans_of d ρ ++ rest → starts_of d ρ ≡ starts_by spans d
 unfolding starts_of

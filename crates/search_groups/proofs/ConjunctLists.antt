@@ -6,12 +6,13 @@ use native.Mathlib.Omega.{arith}
 use lib.ListN.{length, set, length-append}
 use Rattle.table_places.specs.StaticRulesScope.{contexts}
 use Rattle.node_spans.specs.Spans.{Stands, span}
+use Rattle.node_spans.specs.SpanPromises.{NumberPut}
 use Rattle.table_nodes.specs.TableWalkPromises.{patch}
 use Rattle.table_places.specs.DossierTable.{slots_of, starts_of}
 use Rattle.search_groups.specs.Conjuncts.{context_rows, context_firsts}
-use Rattle.search_groups.specs.GroupPromises.{Conjoin, Conjoined, Wrote, place_of, RowsAt, no_rows, more_rows, Marked, ContextPut, ContextsAhead, ListPut, Standing, Listed}
+use Rattle.search_groups.specs.GroupPromises.{Conjoin, Conjoined, Wrote, place_of, RowsAt, no_rows, more_rows, ContextPut, ContextsAhead, ListPut, Standing, Listed}
 use Rattle.table_nodes.proofs.Pieces.{patch-none, patch-length, patch-behind}
-use Rattle.search_groups.proofs.GroupPlaces.{patch-more}
+use Rattle.table_nodes.proofs.Pieces.{patch-more}
 use Rattle.search_groups.proofs.ConjunctContexts.{twice, twice-is, starts_by, starts_are, dossier-rows}
 
 -- one context
@@ -48,7 +49,7 @@ ahead-first table spans count rows fs out firsts a =
     }
 
 pub ahead-next : {table spans : List ℕ} {j k n count r : ℕ} {rows fs out now after firsts marks marked : List ℕ}
-    → ContextsAhead table spans k n count rows fs out now firsts marks → Marked k n marks marked → ContextPut table spans j n now after r → j ≡ place_of k → k < count
+    → ContextsAhead table spans k n count rows fs out now firsts marks → NumberPut k n marks marked → ContextPut table spans j n now after r → j ≡ place_of k → k < count
     → length rows ≤ length out → length out ≤ 65535 → k < length firsts → ContextsAhead table spans (k + 1) r count rows fs out after firsts marked
 ahead-next {table} {spans} {j} {k} {n} {count} {r} {rows} {fs} {out} {now} {after} {firsts} {marks} {marked} x z p e h l o q =
     go x.left x.more x.others x.rest x.whole x.firsts_whole x.sum
@@ -68,7 +69,7 @@ ahead-next {table} {spans} {j} {k} {n} {count} {r} {rows} {fs} {out} {now} {afte
         let d₂ : Stands table (span spans j + 4) (span spans (j + 1)) codes =
         subst (λ (i : ℕ). Stands table i (span spans (j + 1)) codes) fr (subst (λ (i : ℕ). Stands table from i codes) en d) in
         let y : Wrote n u now after r = p.right codes u c₂ d₂ (omega arith) in
-        let g : marked ≡ set marks k n = z.marks (omega arith) in
+        let g : marked ≡ set marks k n = z.puts (omega arith) in
         let lf = length-append x.front u in
         let lb : length (x.before ++ (n ∷ [])) ≡ length x.before + 1 = length-append x.before (n ∷ []) in
         let yb = y.behind in
@@ -90,7 +91,7 @@ ahead-next {table} {spans} {j} {k} {n} {count} {r} {rows} {fs} {out} {now} {afte
         }
 
 pub ahead-done : {table spans : List ℕ} {k n count : ℕ} {rows fs out after firsts marks marked : List ℕ} → ContextsAhead table spans k n count rows fs out after firsts marks
-    → Marked count n marks marked → count ≡ k → length rows ≤ 65535 → k < length firsts → (after ≡ patch 0 rows out) × (marked ≡ patch 0 fs firsts)
+    → NumberPut count n marks marked → count ≡ k → length rows ≤ 65535 → k < length firsts → (after ≡ patch 0 rows out) × (marked ≡ patch 0 fs firsts)
 ahead-done {table} {spans} {k} {n} {count} {rows} {fs} {out} {after} {firsts} {marks} {marked} x m h l q =
     go x.left x.more x.others x.rest x.whole x.firsts_whole x.sum
   where
@@ -102,7 +103,7 @@ ahead-done {table} {spans} {k} {n} {count} {rows} {fs} {out} {after} {firsts} {m
         let pl = x.place in
         let nb = x.number in (
           x.written ∙ ap (λ (i : List ℕ). patch 0 i out) e,
-          m.marks (omega arith) ∙ ap (λ (i : ℕ). set marks i n) h ∙ ap (λ (i : List ℕ). set i k n) x.marks ∙ patch-more 0 k n x.before firsts (omega arith) q
+          m.puts (omega arith) ∙ ap (λ (i : ℕ). set marks i n) h ∙ ap (λ (i : List ℕ). set i k n) x.marks ∙ patch-more 0 k n x.before firsts (omega arith) q
               ∙ ap (λ (i : List ℕ). patch 0 i firsts) (sym f),
         )
     go _ _ _ (more_rows a b c d t) w f s = absurd (omega arith)

@@ -1,5 +1,5 @@
 -- A scan over nodes, four numbers at a time, finds the last variable of each group.
-use mathlib.Core.Path.{◌≡◌, refl, sym, ap, ap₂, ◌∙◌}
+use mathlib.Core.Path.{◌≡◌, refl, sym, ap, ◌∙◌}
 use mathlib.Core.Bool.{Bool, ◌&&◌, cond}
 use mathlib.Core.List.{List, [], ◌∷◌, ◌++◌}
 use Prim.Native.Nat.{ℕ, ◌+◌, ◌-◌, ◌<◌, max}
@@ -7,13 +7,11 @@ use native.Mathlib.Nat.{max-zero, zero-max}
 use native.Mathlib.Omega.{arith}
 use lib.Dec.{leb, ltb}
 use lib.ListN.{length, get_or}
-use borrow.Author.Tests.{eq-eqb, ne_eqb, le-leb, lt-leb, lt-ltb, le-ltb}
-use Rattle.std.specs.declared.cmp.Ordering.{Ordering}
-use Rattle.std.specs.declared.cmp.Ordering.TheVariants.{Less, Equal, Greater}
-use Rattle.std.specs.Cmp.{ranks}
-use Rattle.std.specs.Ordering.{is_le, is_lt, nat_cmp, MatchOrdering}
+use borrow.Author.Tests.{eq-eqb, ne_eqb}
+use Rattle.std.specs.Ordering.{is_le, is_lt, nat_cmp}
+use Rattle.lexical.proofs.RangeTests.{in_range}
 use Rattle.search_groups.specs.Conjuncts.{last_in}
-use Rattle.search_groups.specs.GroupPromises.{slot_here, slots_at, Noted, LastsOf, LastsAhead}
+use Rattle.search_groups.specs.GroupPromises.{slot_here, slots_at, EachLast, Noted, LastsOf, LastsAhead}
 use Rattle.search_groups.specs.declared.conjuncts.Mentioned.{Mentioned}
 
 max_assoc : (a b c : ℕ) → max (max a b) c ≡ max a (max b c)
@@ -60,24 +58,13 @@ scan-done : (x : List ℕ) (base n best all : ℕ) → max best (last_in base n 
 unfolding last_in
 scan-done x base n best all g h = sym (max-zero best) ∙ ap (λ (x : List ℕ). max best (last_in base n x)) (sym (few-slots x h)) ∙ g
 
--- what a range's `contains` answers
-at_most : (x y : ℕ) (r : Ordering) → MatchOrdering r (x < y) (x ≡ y) (y < x) → is_le r ≡ leb x y
-at_most x y Less h = sym (le-leb x y (omega arith))
-at_most x y Equal h = sym (le-leb x y (omega arith))
-at_most x y Greater h = sym (lt-leb x y h)
-
-below : (x y : ℕ) (r : Ordering) → MatchOrdering r (x < y) (x ≡ y) (y < x) → is_lt r ≡ ltb x y
-below x y Less h = sym (lt-ltb x y h)
-below x y Equal h = sym (le-ltb x y (omega arith))
-below x y Greater h = sym (le-ltb x y (omega arith))
-
 -- the place of a slot in its group, from 1; 0 where it is in another one
 pub ranked-slot : (a base n : ℕ) (t : Bool) → is_le (nat_cmp base a) && is_lt (nat_cmp a (base + n)) ≡ t → cond t (a - base + 1) 0 ≡ last_in base n (a ∷ [])
 unfolding last_in
 ranked-slot a base n t e =
     sym (
     ap (λ (x : Bool). max (cond x (a - base + 1) 0) 0)
-    (sym (ap₂ ◌&&◌ (at_most base a (nat_cmp base a) (ranks base a)) (below a (base + n) (nat_cmp a (base + n)) (ranks a (base + n)))) ∙ e)
+    (sym (in_range base (base + n) a) ∙ e)
     ∙ max-zero (cond t (a - base + 1) 0)
     )
 
@@ -107,12 +94,12 @@ noted-none k a l h =
     one : (base n v : ℕ) → v ≡ max v (last_in base n (slot_here k a))
     one base n v = sym (max-zero v) ∙ ap (max v) (no_slot k a base n h)
 
-pub lasts-start : (x y : List ℕ) → x ≡ y → LastsAhead (slots_at x) (slots_at y) (record { abstracts = 0; concretes = 0; inputs = 0; outputs = 0; cprimed = 0; aprimed = 0 })
-lasts-start x y e =
-    record { abstracts = one 0 8; concretes = one 8 8; inputs = one 16 3; outputs = one 19 3; cprimed = one 22 8; aprimed = one 30 8 }
+pub lasts-start : (x y : List ℕ) (r : Mentioned) → EachLast (λ (base n v w : ℕ). w ≡ 0) r r → x ≡ y → LastsAhead (slots_at x) (slots_at y) r
+lasts-start x y r z e =
+    record { abstracts = one 0 8 z.abstracts; concretes = one 8 8 z.concretes; inputs = one 16 3 z.inputs; outputs = one 19 3 z.outputs; cprimed = one 22 8 z.cprimed; aprimed = one 30 8 z.aprimed }
   where
-    one : (base n : ℕ) → max 0 (last_in base n (slots_at x)) ≡ last_in base n (slots_at y)
-    one base n = zero-max _ ∙ ap (λ (z : List ℕ). last_in base n (slots_at z)) e
+    one : {w : ℕ} (base n : ℕ) → w ≡ 0 → max w (last_in base n (slots_at x)) ≡ last_in base n (slots_at y)
+    one base n z = ap (λ (v : ℕ). max v (last_in base n (slots_at x))) z ∙ zero-max _ ∙ ap (λ (l : List ℕ). last_in base n (slots_at l)) e
 
 pub lasts-step : (node rest x whole : List ℕ) (l r : Mentioned) → x ≡ node ++ rest → length node ≡ 4 → Noted (get_or node 3 0) (get_or node 1 0) l r
     → LastsAhead (slots_at x) whole l → LastsAhead (slots_at rest) whole r

@@ -1,10 +1,12 @@
 -- Where the parts of a table stand, and the rows written one behind the other: what the functions that list the conjuncts count on.
 use mathlib.Core.Path.{◌≡◌, refl, sym, ap, ap₂, ◌∙◌, subst}
 use mathlib.Core.List.{List, [], ◌∷◌, ◌++◌, append_assoc}
-use Prim.Native.Nat.{ℕ, ◌+◌, ◌-◌, ◌≤◌, ◌<◌}
+use Prim.Native.Nat.{ℕ, ◌+◌, ◌-◌, ◌≤◌}
 use native.Mathlib.Omega.{arith}
-use lib.ListN.{length, take, drop, get_or, length-append, length-drop}
-use lib.Seq.{length-take-le, take-take, take-append_seam, take-add, drop_at, drop-drop, get_or-append-add, get_or-take, get_or-drop}
+use lib.ListN.{length, get_or, length-append}
+use borrow.Author.Tests.{leb-true, leb-false}
+use lib.Dec.{leb}
+use mathlib.Core.Bool.{◌&&◌}
 use Rattle.std.proofs.Common.{Option, Some, None, Bool, true, false}
 use Rattle.std.specs.Bool.{then_some}
 use Rattle.form.specs.Codes.{node}
@@ -13,59 +15,7 @@ use Rattle.table_nodes.specs.TableWalkPromises.{patch}
 use Rattle.search_groups.specs.Conjuncts.{last_in, conjunct_row}
 use Rattle.search_groups.specs.GroupPromises.{slots_at, piece, Conjoin, alone, both, Middle, Wrote, RowPut, Conjoined}
 use Rattle.table_nodes.proofs.Pieces.{patch-behind, patch-length}
-
-pub stands-length : {t : List ℕ} {from end : ℕ} {x : List ℕ} → Stands t from end x → end ≡ from + length x
-stands-length {t} {from} {end} {x} s =
-    let o = s.ordered in
-    let i = s.inside in
-    let d = length-drop from t in
-    let e : length x ≡ end - from = sym (ap length s.stands) ∙ length-take-le (end - from) (drop from t) (omega arith) in
-    omega arith
-
--- the first part, and the second
-pub stands-left : {t : List ℕ} {from end : ℕ} (x y : List ℕ) (m : ℕ) → Stands t from end (x ++ y) → m ≡ from + length x → Stands t from m x
-stands-left {t} {from} {end} x y m s e =
-    let o = s.ordered in
-    let i = s.inside in
-    let l = stands-length s in
-    let n = length-append x y in
-    let k : m - from ≡ length x = omega arith in
-    record {
-      ordered = omega arith;
-      inside = omega arith;
-      stands =
-          ap (λ (j : ℕ). take j (drop from t)) k ∙ sym (take-take (length x) (end - from) (drop from t) (omega arith))
-          ∙ ap (take (length x)) s.stands ∙ take-append_seam x y;
-    }
-
-pub stands-right : {t : List ℕ} {from end : ℕ} (x y : List ℕ) (m : ℕ) → Stands t from end (x ++ y) → m ≡ from + length x → Stands t m end y
-stands-right {t} {from} {end} x y m s e =
-    let o = s.ordered in
-    let i = s.inside in
-    let l = stands-length s in
-    let n = length-append x y in
-    let d = length-drop from t in
-    let k : end - from ≡ length x + (end - m) = omega arith in
-    let a : List ℕ = drop from t in
-    let u : x ++ y ≡ take (length x) a ++ take (end - m) (drop (length x) a) =
-    sym s.stands ∙ ap (λ (j : ℕ). take j a) k ∙ take-add (length x) (end - m) a in
-    let v : take (end - m) (drop (length x) a) ≡ y =
-    sym (drop_at (take (length x) a) (take (end - m) (drop (length x) a)) (length x) (length-take-le (length x) a (omega arith)))
-    ∙ ap (drop (length x)) (sym u) ∙ drop_at x y (length x) refl in
-    record {
-      ordered = omega arith;
-      inside = omega arith;
-      stands = ap (λ (j : ℕ). take (end - m) (drop j t)) e ∙ ap (take (end - m)) (sym (drop-drop (length x) from t)) ∙ v;
-    }
-
--- a number of the part
-pub stands_at : {t : List ℕ} {from end : ℕ} (x y : List ℕ) (j n : ℕ) → Stands t from end (x ++ y) → j < length y → n ≡ from + (length x + j) → get_or t n 0 ≡ get_or y j 0
-stands_at {t} {from} {end} x y j n s h e =
-    let l = stands-length s in
-    let k = length-append x y in
-    ap (λ (i : ℕ). get_or t i 0) e ∙ sym (get_or-drop from t (length x + j) 0)
-    ∙ sym (get_or-take (end - from) (drop from t) (length x + j) 0 (omega arith))
-    ∙ ap (λ (z : List ℕ). get_or z (length x + j) 0) s.stands ∙ get_or-append-add x y j 0
+use Rattle.node_spans.proofs.StandingParts.{stands-length, stands-left, stands-right, stands_at}
 
 -- the last node
 pub record Last (t : List ℕ) (from end n k i a : ℕ) : Type 0 where
@@ -112,13 +62,14 @@ middle-found t from end m e f g h l =
     }
 
 -- what is found, if it is inside
-pub middle-picked : (t : List ℕ) (from end m : ℕ) (b : Bool) (r : Option ℕ) → r ≡ then_some b m → get_or t (end - 1) 0 ≡ 18 → get_or t (end - 3) 0 ≡ 51 → m ≡ get_or t (end - 2) 0
-    → (b ≡ true → (from ≤ m) × (m + 4 ≤ end)) → (b ≡ false → from ≤ m → m + 4 ≤ end → ⊥) → Middle t from end r
-middle-picked t from end m b r q e f g inside outside = subst (λ (o : Option ℕ). Middle t from end o) (sym q) (go b refl)
+pub middle-picked : (t : List ℕ) (from end m : ℕ) (r : Option ℕ) → 4 ≤ end → r ≡ then_some (leb from m && leb m (end - 4)) m → get_or t (end - 1) 0 ≡ 18 → get_or t (end - 3) 0 ≡ 51
+    → m ≡ get_or t (end - 2) 0 → Middle t from end r
+middle-picked t from end m r room q e f g = subst (λ (o : Option ℕ). Middle t from end o) (sym q) (go (leb from m) (leb m (end - 4)) refl refl)
   where
-    go : (x : Bool) → b ≡ x → Middle t from end (then_some x m)
-    go true h = let w = inside h in middle-found t from end m e f g w.0 w.1
-    go false h = middle-none t from end (λ n k l u. outside h (omega arith) (omega arith))
+    go : (x y : Bool) → leb from m ≡ x → leb m (end - 4) ≡ y → Middle t from end (then_some (x && y) m)
+    go true true h i = middle-found t from end m e f g (leb-true from m h) (omega (arith, leb-true m (end - 4) i))
+    go true false h i = middle-none t from end (λ n k l u. omega (arith, leb-false m (end - 4) i))
+    go false y h i = middle-none t from end (λ n k l u. omega (arith, leb-false from m h))
 
 -- what was found is inside
 pub middle-some : {t : List ℕ} {from end m : ℕ} {r : Option ℕ} → Middle t from end r → r ≡ Some m → Middle t from end (Some m)

@@ -6,13 +6,11 @@ use Prim.Native.Nat.{ℕ, suc, ◌+◌, ◌-◌, ◌*◌, ◌%◌, ◌≤◌}
 use native.Mathlib.Omega.{arith}
 use lib.ListN.{length, replicate, length-append, length-replicate, get_or-append}
 use Rattle.lexical.specs.Lists.{filter}
-use Rattle.form.specs.Tree.{TypeForm, given_type, power_type, range_type, arrow_type, Declaration, Direction, inward, outward, Parameter, Operation, Dossier}
+use Rattle.form.specs.Tree.{TypeForm, given_type, power_type, range_type, arrow_type, Declaration, Direction, inward, outward, Parameter, Operation}
 use Rattle.form.specs.Written.{ending_of}
-use Rattle.form.specs.Headings.{operations_at, operation_length}
-use Rattle.form.specs.Codes.{Numbering, node, number_of_name, type_codes, type_width, declaration_codes, parameter_codes, condition_codes, abstractly_at, pred_width}
+use Rattle.form.specs.Codes.{Numbering, node, number_of_name, type_codes, type_width, declaration_codes, parameter_codes}
 use Rattle.table_places.specs.StaticRulesScope.{is_input, is_output}
-use Rattle.node_spans.specs.ParserSections.{operations_from}
-use Rattle.node_spans.specs.Spans.{span, spans_of, operation_spans}
+use Rattle.node_spans.specs.Spans.{span}
 use Rattle.table_places.specs.DossierTable.{row, state_row, parameter_row, operation_rows}
 use Rattle.search_groups.specs.GroupPromises.{Picks, no_pick, pick, pass}
 
@@ -80,17 +78,6 @@ row-length n qs h =
     let q = length-replicate {A = ℕ} (n - length qs) 0 in
     omega arith
 
--- the spans: nine numbers, and four for each operation
-spans_of_lem : (from i : ℕ) (os : List Operation) (ρ : Numbering) → length (operation_spans from i os ρ) ≡ 4 * length os
-unfolding operation_spans
-spans_of_lem from i [] ρ = refl
-spans_of_lem from i (o ∷ os) ρ =
-    let b : ℕ = from + 4 + length (parameter_codes (i + 2) o.parameters ρ) in
-    let e : ℕ = b + length (condition_codes (abstractly_at i o) o.abstractly ρ) in
-    let f : ℕ = e + length (condition_codes (suc (abstractly_at i o) + pred_width o.abstractly) o.concretely ρ) in
-    let h = spans_of_lem f (i + operation_length o) os ρ in
-    omega arith
-
 -- the rows of an operation's inputs and outputs
 abbrev pub both_rows : ℕ → List Parameter → List ℕ
 both_rows q xs =
@@ -103,7 +90,3 @@ rows_same s rest k [] h = refl
 rows_same s rest k (o ∷ os) h =
     let e : span (s ++ rest) (9 + 4 * k) ≡ span s (9 + 4 * k) = get_or-append s rest 0 (9 + 4 * k) (omega arith) in
     ap₂ (λ (q : ℕ) (z : List ℕ). both_rows q o.parameters ++ z) e (rows_same s rest (suc k) os (omega arith))
-
-pub spans-length : (d : Dossier) (ρ : Numbering) → length (spans_of d ρ) ≡ 9 + 4 * length d.operations
-unfolding spans_of
-spans-length d ρ = let h = spans_of_lem (operations_from d ρ) (operations_at d) d.operations ρ in omega arith

@@ -4,20 +4,39 @@ use mathlib.Core.List.{List, [], ◌∷◌, ◌++◌, append_assoc, append-nil}
 use Prim.Native.Nat.{ℕ, suc, ◌+◌, ◌-◌, ◌%◌, ◌≤◌, ◌<◌}
 use native.Mathlib.Omega.{arith}
 use lib.ListN.{length, take, drop, get_or, set, replicate, length-set, length-append, length-drop, length-replicate, drop_of_length-le}
-use lib.Seq.{drop-drop, length-take-le}
+use lib.Seq.{drop-drop, length-take-le, get_or-take, get_or-drop}
+use Rattle.std.proofs.Common.{Option, Some, None, Bor, inl, inr}
+use Rattle.std.specs.Slice.{IsGetRangeResult}
 use Rattle.node_spans.specs.Spans.{Stands, span}
 use Rattle.table_nodes.specs.TableWalkPromises.{patch}
 use Rattle.table_places.specs.DossierTable.{row}
 use Rattle.search_groups.specs.GroupPromises.{Picks, no_pick, pick, pass, Picked, Chosen, PickedAll, GroupPut, OperationPut}
-use Rattle.table_nodes.proofs.Pieces.{patch-none, patch-set, patch-length, patch-before, patch-behind}
-use Rattle.search_groups.proofs.ConjunctTables.{stands-length, stands-right, stands_at}
+use Rattle.table_nodes.proofs.Pieces.{patch-none, patch-set, patch-length, patch-before, patch-behind, patch-more}
+use Rattle.node_spans.proofs.StandingParts.{stands-length, stands-right, stands_at}
 use Rattle.search_groups.proofs.GroupPicks.{row-length}
 
--- one number more behind the piece
-pub patch-more : (n m v : ℕ) (x out : List ℕ) → m ≡ n + length x → m < length out → set (patch n x out) m v ≡ patch n (x ++ (v ∷ [])) out
-patch-more n m v x out e h =
-    let l = patch-length n x out (omega arith) in
-    patch-set m v (patch n x out) (omega arith) ∙ patch-behind n m x (v ∷ []) out e (omega arith)
+-- the part of the nodes between two places, as `get` gives it
+pub record Part (nodes : List ℕ) (from to : ℕ) (code : List ℕ) : Type 0 where
+  pub long : length code ≡ to - from
+  pub at : (k : ℕ) → k < length code → get_or code k 0 ≡ get_or nodes (from + k) 0
+
+pub part_of : {nodes : List ℕ} {from to : ℕ} {o : Option (Bor (List ℕ))} {b : Bor (List ℕ)} → IsGetRangeResult nodes from to o → o ≡ Some b → Part nodes from to b.now
+part_of {nodes} {from} {to} {o} {b} g e =
+    let h = subst (IsGetRangeResult nodes from to) e g in
+    let long : length b.now ≡ to - from = ap length h.0.2 ∙ length-take-le (to - from) (drop from nodes) (omega (arith, h.0.0, h.0.1, length-drop from nodes)) in
+    record {
+      long = long;
+      at = λ k l. ap (λ (y : List ℕ). get_or y k 0) h.0.2 ∙ get_or-take (to - from) (drop from nodes) k 0 (omega arith) ∙ get_or-drop from nodes k 0;
+    }
+
+pub picked-none : {nodes : List ℕ} {from to : ℕ} {o : Option (Bor (List ℕ))} (e : ℕ) (out : List ℕ) → IsGetRangeResult nodes from to o → o ≡ None → PickedAll nodes from to e out out 0
+picked-none {nodes} {from} {to} e out g n =
+    let h = subst (IsGetRangeResult nodes from to) n g in
+    record {
+      few = omega arith;
+      long = refl;
+      right = λ codes qs s p l. let o = s.ordered in let i = s.inside in elim h.0 [ inl w ↦ absurd (omega arith) | inr w ↦ absurd (omega arith) ];
+    }
 
 -- behind c picked ones: all come of those written and of those still to be read
 pub record Left (nodes : List ℕ) (to e at : ℕ) (qs out after : List ℕ) (c : ℕ) : Type 0 where
@@ -35,16 +54,16 @@ left-first nodes to e from at codes qs out a s p =
     subst (λ (i : ℕ). Left nodes to e i qs out out 0) (sym a)
     (record { codes = codes; more = qs; front = []; stand = s; picks = p; whole = refl; count = refl; written = sym (patch-none 0 out) })
 
-pub left-next : {nodes : List ℕ} {to e at next c r : ℕ} {qs out now after : List ℕ} → Left nodes to e at qs out now c → Picked nodes at e c now after r
+pub left-next : {nodes : List ℕ} {to e at next word c r : ℕ} {qs out now after : List ℕ} → Left nodes to e at qs out now c → word ≡ get_or nodes (at + 1) 0 → Picked word at e c now after r
     → next ≡ at + 8 → at + 8 ≤ to → length qs ≤ length out → length now ≡ length out → Left nodes to e next qs out after r
-left-next {nodes} {to} {e} {at} {next} {c} {r} {qs} {out} {now} {after} x p f h l m =
+left-next {nodes} {to} {e} {at} {next} {word} {c} {r} {qs} {out} {now} {after} x named p f h l m =
     subst (λ (i : ℕ). Left nodes to e i qs out after r) (sym f) (go x.codes x.more x.stand x.whole x.picks)
   where
     go : (codes more : List ℕ) → Stands nodes at to codes → qs ≡ x.front ++ more → Picks e at codes more → Left nodes to e (at + 8) qs out after r
     go _ _ s w no_pick = absurd (let z = stands-length s in omega arith)
     go _ _ s w (pick {k = k} {i = i} {a = a} {b = b} {l = l₁} {j = j} {c = c₁} {d = d} {rest = rest} {qs = more} g q) =
         let z : List ℕ = b ∷ a ∷ i ∷ k ∷ d ∷ c₁ ∷ j ∷ l₁ ∷ [] in
-        let u : get_or nodes (at + 1) 0 ≡ a = stands_at [] (z ++ rest) 1 (at + 1) s (omega arith) (omega arith) in
+        let u = named ∙ stands_at [] (z ++ rest) 1 (at + 1) s (omega arith) (omega arith) in
         let v = x.count in
         let y : length qs ≡ length x.front + suc (length more) = ap length w ∙ length-append x.front (at ∷ more) in
         let f = p.here (ap (λ (t : ℕ). t % 4) u ∙ g) (omega arith) in
@@ -62,7 +81,7 @@ left-next {nodes} {to} {e} {at} {next} {c} {r} {qs} {out} {now} {after} x p f h 
         }
     go _ _ s w (pass {k = k} {i = i} {a = a} {b = b} {l = l₁} {j = j} {c = c₁} {d = d} {rest = rest} {qs = more} g q) =
         let z : List ℕ = b ∷ a ∷ i ∷ k ∷ d ∷ c₁ ∷ j ∷ l₁ ∷ [] in
-        let u : get_or nodes (at + 1) 0 ≡ a = stands_at [] (z ++ rest) 1 (at + 1) s (omega arith) (omega arith) in
+        let u = named ∙ stands_at [] (z ++ rest) 1 (at + 1) s (omega arith) (omega arith) in
         let f = p.past (λ v. g (sym (ap (λ (t : ℕ). t % 4) u) ∙ v)) in
         record {
           codes = rest;

@@ -14,7 +14,8 @@ use Rattle.table_nodes.specs.TableWalkPromises.{patch}
 use Rattle.table_places.specs.DossierTable.{row, state_row, parameter_row, operation_rows, groups_of}
 use Rattle.search_groups.specs.GroupPromises.{Picks, GroupPut, OperationPut, FewParameters, FewEach, few_more, RowsAhead, RowsPut, Grouped}
 use Rattle.table_nodes.proofs.Pieces.{patch-none, patch-length, patch-behind}
-use Rattle.search_groups.proofs.GroupPicks.{state-picks, input-picks, output-picks, state-count, parameter-count, row-length, both_rows, rows_same, spans-length}
+use Rattle.search_groups.proofs.GroupPicks.{state-picks, input-picks, output-picks, state-count, parameter-count, row-length, both_rows, rows_same}
+use Rattle.table_places.proofs.WritingAll.{spans-length}
 
 abbrev ins_of : ℕ → Operation → List ℕ
 ins_of q o = parameter_row (λ (x : Parameter). is_input x.direction) q o.parameters

@@ -12,5 +12,6 @@ pub mod GroupPlaces
 pub mod GroupRows
 pub mod ConjunctContexts
 pub mod ConjunctLists
-
 -- Each predicate of a dossier at its place in the whole table, and the rows of all conjuncts.
+-- what crates above name of crates below
+pub use Rattle.node_spans.proofs.StandingParts as NodeSpansStandingParts

@@ -32,6 +32,12 @@ use Rattle.refusals.proofs.FaultLists.{not_nil}
 abbrev pub slot_of : Slots → Name → Option (Name × ℕ)
 slot_of W x = find (λ (w : Name × ℕ). same_name w.0 x) W
 
+pub slot-here : (w : Name × ℕ) (W : Slots) (y : Name) → same_name w.0 y ≡ true → slot_of (w ∷ W) y ≡ some w
+slot-here w W y e = find-here (λ (v : Name × ℕ). same_name v.0 y) w W e
+
+pub slot-there : (w : Name × ℕ) (W : Slots) (y : Name) → same_name w.0 y ≡ false → slot_of (w ∷ W) y ≡ slot_of W y
+slot-there w W y e = find-there (λ (v : Name × ℕ). same_name v.0 y) w W e
+
 -- the number n tells where the value of the name x is: below 64 its slot, from 64 on its place among the elements
 abbrev pub PlaceIs : Option (Name × ℕ) → Option Given → Name → ℕ → Type 0
 PlaceIs (some w) g x n = (n ≡ w.1) × (w.1 < 64)
@@ -145,19 +151,13 @@ module _ (ρ : Numbering) (P : Letters → Type 0) (ν : Numbered ρ P) (Γ : Sc
   PlaceAt : Name → Type 0
   PlaceAt y = PlaceIs (slot_of ((plain x, s) ∷ W') y) (element_of Γ.givens y) y (entry (set W (number_of_name ρ x no_ending) s) (name_number ρ y))
 
-  slot-here : (y : Name) → same_name (plain x) y ≡ true → slot_of ((plain x, s) ∷ W') y ≡ some (plain x, s)
-  slot-here y e = find-here (λ (v : Name × ℕ). same_name v.0 y) (plain x, s) W' e
-
-  slot-there : (y : Name) → same_name (plain x) y ≡ false → slot_of ((plain x, s) ∷ W') y ≡ slot_of W' y
-  slot-there y e = find-there (λ (v : Name × ℕ). same_name v.0 y) (plain x, s) W' e
-
   other_place : (y : Name) → P y.letters → same_name (plain x) y ≡ false → (name_number ρ y ≡ number_of_name ρ x no_ending → ⊥) → PlaceAt y
   unfolding PlaceAt
-  other_place y py e h = rw (slot-there y e, other y h) (w.places y py)
+  other_place y py e h = rw (slot-there (plain x, s) W' y e, other y h) (w.places y py)
 
   this_place : PlaceAt (plain x)
   unfolding PlaceAt same_name
-  this_place = rw (slot-here (plain x) (same_refl x), this) (refl, omega arith)
+  this_place = rw (slot-here (plain x, s) W' (plain x) (same_refl x), this) (refl, omega arith)
 
   bound-place : (y : Name) → P y.letters → PlaceAt y
   unfolding number_of_name same_name

@@ -1,5 +1,5 @@
 -- What the functions promise that list the conjuncts and the groups of variables. Nothing here need be believed.
-use Rattle.std.specs.Prelude.{◌≡◌, cond, List, [], ◌∷◌, ◌++◌, ℕ, suc, ◌+◌, ◌-◌, ◌*◌, ◌/◌, ◌%◌, ◌≤◌, ◌<◌, max, eqb, ltb, length, take, drop, get_or, set, Option, Some, None, IfSome}
+use Rattle.std.specs.Prelude.{◌≡◌, cond, List, [], ◌∷◌, ◌++◌, ℕ, suc, ◌+◌, ◌-◌, ◌*◌, ◌/◌, ◌%◌, ◌≤◌, ◌<◌, max, eqb, ltb, length, take, drop, set, Option, Some, None, IfSome}
 use Rattle.lexical.specs.Lists.{filter}
 use Rattle.form.specs.Tree.{declarations, Parameter, Operation, Dossier}
 use Rattle.form.specs.Codes.{Numbering, node}
@@ -76,12 +76,12 @@ pub data Picks (e : ℕ) : (q : ℕ) → (codes qs : List ℕ) → Type 0 where
   pick : {q k i a b l j c d : ℕ} {rest qs : List ℕ} → a % 4 ≡ e → Picks e (q + 8) rest qs → Picks e q (b ∷ a ∷ i ∷ k ∷ d ∷ c ∷ j ∷ l ∷ rest) (q ∷ qs)
   pass : {q k i a b l j c d : ℕ} {rest qs : List ℕ} → (a % 4 ≡ e → ⊥) → Picks e (q + 8) rest qs → Picks e q (b ∷ a ∷ i ∷ k ∷ d ∷ c ∷ j ∷ l ∷ rest) qs
 
--- one declaration, at a place, behind c that were picked
-pub record Picked (nodes : List ℕ) (at e c : ℕ) (out after : List ℕ) (r : ℕ) : Type 0 where
+-- one declaration, with the number x of its name, at a place, behind c that were picked
+pub record Picked (x at e c : ℕ) (out after : List ℕ) (r : ℕ) : Type 0 where
   pub few : r ≤ length out
   pub long : length after ≡ length out
-  pub here : get_or nodes (at + 1) 0 % 4 ≡ e → c < length out → (after ≡ set out c at) × (r ≡ c + 1)
-  pub past : (get_or nodes (at + 1) 0 % 4 ≡ e → ⊥) → (after ≡ out) × (r ≡ c)
+  pub here : x % 4 ≡ e → c < length out → (after ≡ set out c at) × (r ≡ c + 1)
+  pub past : (x % 4 ≡ e → ⊥) → (after ≡ out) × (r ≡ c)
 
 -- the places qs in front, and how many they are
 pub record Chosen (qs out after : List ℕ) (r : ℕ) : Type 0 where
@@ -154,11 +154,6 @@ pub data RowsAt (table spans : List ℕ) : (k m n : ℕ) → (rows firsts : List
   no_rows : {k n : ℕ} → RowsAt table spans k 0 n [] (n ∷ [])
   more_rows : {k m n from end : ℕ} {codes u v fs : List ℕ} → from ≡ span spans (place_of k) + 4 → end ≡ span spans (place_of k + 1) → Conjoin from codes u
       → Stands table from end codes → RowsAt table spans (suc k) m (n + length u) v fs → RowsAt table spans k (suc m) n (u ++ v) (n ∷ fs)
-
--- how many numbers stand before a context's rows
-pub record Marked (k n : ℕ) (firsts marked : List ℕ) : Type 0 where
-  pub long : length marked ≡ length firsts
-  pub marks : n ≤ 65535 → marked ≡ set firsts k n
 
 pub record ContextPut (table spans : List ℕ) (j n : ℕ) (out after : List ℕ) (r : ℕ) : Type 0 where
   pub long : length after ≡ length out

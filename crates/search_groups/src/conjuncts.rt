@@ -1,14 +1,14 @@
 // The conjuncts of each predicate, read off the table: where each one's nodes are, and the last variable of every group that it mentions.
 ghost use Rattle.std.specs.Prelude.{◌≡◌, [], ◌∷◌, ◌+◌, ◌≤◌, ◌<◌, length};
 ghost use Rattle.search_groups.specs.Conjuncts.{last_in, conjunct_row};
-ghost use Rattle.search_groups.specs.GroupPromises.{slot_here, slots_at, piece, Noted, LastsOf, Middle, RowPut, Conjoined, Marked};
+ghost use Rattle.search_groups.specs.GroupPromises.{slots_at, piece, Noted, LastsOf, Middle, RowPut, Conjoined};
 ghost use Rattle.search_groups.specs.GroupPromises.{Place, ContextPut, ListPut, Listed};
 
-use crate::contexts::{OPERATIONS, SIDES};
+use crate::contexts::{ABSTRACT_STATE, CONCRETE_STATE, OPERATIONS, RETRIEVE, SIDES};
 use form::node;
 use form::operator_codes::AND;
 use lexical::bounds;
-use node_spans::{LARGEST, Parts, span};
+use node_spans::{Parts, put_number, span};
 use table_nodes::{slots, table_shapes};
 
 // How many variables a state has at most; inputs and outputs an operation.
@@ -20,7 +20,11 @@ const INPUTS: u16 = bounds::INPUTS as u16;
 const OUTPUTS: u16 = bounds::OUTPUTS as u16;
 
 // How many numbers the row of a conjunct has: where its nodes begin and end, and the last variable of each group.
+// Form 1: this and the next two are lengths and a limit, no kinds.
 pub const ROW: usize = 8;
+
+// The largest number of a row.
+const LARGEST: usize = u16::MAX as usize;
 
 // A number for each predicate and one behind them, with room to spare.
 pub const FIRSTS: usize = 40;
@@ -41,7 +45,7 @@ fn rank(a: u16, base: u16, n: u16) -> u16
 
 // The last variable of each group that some nodes mention, counted from 1. The last two are those of primed concrete and abstract variables.
 // Form 1: numbers of a row, which the caller lends, and there 0 says that the group has none: with six Options `write` would turn each back into its number.
-#[derive(Clone, Copy)]
+#[derive(Clone, Copy, Default)]
 struct Mentioned {
     abstracts: u16,
     concretes: u16,
@@ -73,14 +77,7 @@ fn lasts(table: &[u16], from: usize, end: usize) -> Mentioned
     requires { (from ≤ end) × (end ≤ length table.now) × (end ≤ 65535) }
     ensures { LastsOf (slots_at (piece table.now from end)) result }
 {
-    let mut best = Mentioned {
-        abstracts: 0,
-        concretes: 0,
-        inputs: 0,
-        outputs: 0,
-        cprimed: 0,
-        aprimed: 0,
-    };
+    let mut best = Mentioned::default();
     for n in table[from..end].chunks_exact(node::SIZE) {
         best = noted(best, n[node::SHAPE], n[node::A]);
     }
@@ -109,15 +106,13 @@ fn write(table: &[u16], from: usize, end: usize, row: &mut [u16])
 fn middle(table: &[u16], from: usize, end: usize) -> Option<usize>
     ensures { Middle table.now from end result }
 {
-    if end < node::SIZE || table.len() < end {
+    let at = end.checked_sub(node::SIZE)?;
+    let n = table.get(at..end)?;
+    if n[node::SHAPE] != table_shapes::CONNECTED || n[node::A] != AND {
         return None;
     }
-    let at = end - node::SIZE;
-    if table[at + node::SHAPE] != table_shapes::CONNECTED || table[at + node::A] != AND {
-        return None;
-    }
-    let m = usize::from(table[at + node::PLACE]);
-    (from <= m && m <= at).then_some(m)
+    let m = usize::from(n[node::PLACE]);
+    (from..=at).contains(&m).then_some(m)
 }
 
 // Rows in the lent array, and the place behind them.
@@ -165,24 +160,14 @@ fn place(k: usize) -> usize
     requires { k < 37 }
     ensures { Place k result }
 {
-    if k == 0 {
-        return span::ABSTRACT_LAST;
+    match k {
+        ABSTRACT_STATE => span::ABSTRACT_LAST,
+        CONCRETE_STATE..=RETRIEVE => k + span::CONCRETE_FIRST,
+        _ => {
+            let i = k - OPERATIONS;
+            span::of_operation(i / SIDES) + span::LAST + i % SIDES
+        }
     }
-    if k < OPERATIONS {
-        return k + span::CONCRETE_FIRST;
-    }
-    let i = k - OPERATIONS;
-    span::of_operation(i / SIDES) + span::LAST + i % SIDES
-}
-
-// How many numbers stand before a predicate's rows.
-// Form 1: the array that the caller lends has numbers of 16 bits and nothing else (document 01): 0 stands for a number above them, and the rows of a dossier
-// are never as many.
-fn mark(firsts: &mut [u16], k: usize, n: usize)
-    requires { k < length firsts.old }
-    ensures { Marked k n firsts.old firsts.new }
-{
-    firsts[k] = u16::try_from(n).unwrap_or(0);
 }
 
 // The rows of one context.
@@ -191,8 +176,8 @@ fn context(p: &Parts<'_>, j: usize, rows: &mut Rows<'_>)
     ensures same_rows { rows.new.out.ghost_name ≡ rows.old.out.ghost_name }
     ensures put { ContextPut p.now.nodes.now p.now.spans.now j rows.old.at rows.old.out.now rows.new.out.now rows.new.at }
 {
-    let from = usize::from(p.spans[j]);
-    let end = usize::from(p.spans[j + 1]);
+    let from = p.span(j);
+    let end = p.span(j + 1);
     rows.conjoin(p.nodes, from + node::SIZE, end);
 }
 
@@ -203,10 +188,10 @@ fn contexts(p: &Parts<'_>, count: usize, out: &mut [u16; node::NUMBERS], firsts:
 {
     let mut rows = Rows { out, at: 0 };
     for k in 0..count {
-        mark(firsts, k, rows.at);
+        put_number(firsts, k, rows.at);
         context(p, place(k), &mut rows);
     }
-    mark(firsts, count, rows.at);
+    put_number(firsts, count, rows.at);
 }
 
 // The rows of the conjuncts of a dossier's predicates, in front of the lent array, and how many numbers stand before each predicate's; the nodes are the

@@ -7,7 +7,7 @@ use form::node;
 use lexical::{bounds, endings};
 use node_spans::{Parts, span};
 
-// How many variables a group has at most. A row has one number more; an operation has two rows, behind those of the two states.
+// How many variables a group has at most. A row has one number more. In front are the rows of both states, the abstract one first; behind them each operation has two, of its inputs and of its outputs.
 // Form 1: limits of document 01 and lengths made of them, no kinds.
 const VARIABLES: usize = bounds::VARIABLES as usize;
 
@@ -15,24 +15,24 @@ const INPUTS: usize = bounds::INPUTS as usize;
 
 const OUTPUTS: usize = bounds::OUTPUTS as usize;
 
-const STATE_ROW: usize = VARIABLES + 1;
+pub const STATE_ROW: usize = VARIABLES + 1;
 
-const STATES_ROWS: usize = STATE_ROW + STATE_ROW;
+pub const STATES_ROWS: usize = STATE_ROW + STATE_ROW;
 
-const INPUTS_ROW: usize = INPUTS + 1;
+pub const INPUTS_ROW: usize = INPUTS + 1;
 
-const OPERATION_ROWS: usize = INPUTS_ROW + OUTPUTS + 1;
+pub const OPERATION_ROWS: usize = INPUTS_ROW + OUTPUTS + 1;
 
-pub const GROUPS: usize = 160;
+pub use form::node::GROUPS;
 
-// The place of a declaration behind c others, where its name's number leaves `ending` when divided by 4 and there is room: how many there are then.
+// The place of a declaration behind c others, where the number x of its name leaves `ending` when divided by 4 and there is room: how many there are then.
 // Form 6: the row has the count as its first number, which is written when all places are known; a struct of both would have `pick` and `picked` promise one
 // equation more each, that they hand back the row that they were given.
-fn pick(nodes: &[u16], at: usize, ending: u16, c: usize, places: &mut [u16]) -> usize
-    requires { (at + 8 ≤ length nodes.now) × (at ≤ 65535) × (c ≤ length places.old) × (length places.old ≤ 65535) }
-    ensures { Picked nodes.now at ending c places.old places.new result }
+fn pick(x: u16, at: usize, ending: u16, c: usize, places: &mut [u16]) -> usize
+    requires { (at ≤ 65535) × (c ≤ length places.old) × (length places.old ≤ 65535) }
+    ensures { Picked x at ending c places.old places.new result }
 {
-    if nodes[at + node::A] % endings::COUNT != ending {
+    if x % endings::COUNT != ending {
         return c;
     }
     if places.len() <= c {
@@ -47,12 +47,12 @@ fn picked(nodes: &[u16], from: usize, to: usize, ending: u16, places: &mut [u16]
     requires { (from ≤ 65535) × (to ≤ 65535) × (length places.old ≤ 65535) }
     ensures { PickedAll nodes.now from to ending places.old places.new result }
 {
-    if nodes.len() < to {
+    let Some(code) = nodes.get(from..to) else {
         return 0;
-    }
+    };
     let mut c: usize = 0;
-    for k in 0..to.saturating_sub(from) / node::DECLARATION {
-        c = pick(nodes, from + node::DECLARATION * k, ending, c, places);
+    for (k, d) in code.chunks_exact(node::DECLARATION).enumerate() {
+        c = pick(d[node::A], from + node::DECLARATION * k, ending, c, places);
     }
     c
 }
@@ -72,8 +72,8 @@ fn operation(p: &Parts<'_>, j: usize, rows: &mut [u16])
     requires { (j + 2 ≤ 80) × (length rows.old ≡ 8) }
     ensures { OperationPut p.now.nodes.now p.now.spans.now j rows.old rows.new }
 {
-    let from = usize::from(p.spans[j]);
-    let to = usize::from(p.spans[j + 1]);
+    let from = p.span(j);
+    let to = p.span(j + 1);
     group(p.nodes, from, to, INPUT, &mut rows[..INPUTS_ROW]);
     group(p.nodes, from, to, OUTPUT, &mut rows[INPUTS_ROW..]);
 }
@@ -91,10 +91,10 @@ fn operation_rows(p: &Parts<'_>, out: &mut [u16; GROUPS])
 pub fn groups(p: &Parts<'_>, out: &mut [u16; GROUPS])
     ensures { Grouped p.now.nodes.now p.now.spans.now p.now.operations out.old out.new }
 {
-    let a = usize::from(p.spans[span::ABSTRACT_FIRST]);
-    let b = usize::from(p.spans[span::ABSTRACT_LAST]);
-    let c = usize::from(p.spans[span::CONCRETE_FIRST]);
-    let d = usize::from(p.spans[span::CONCRETE_LAST]);
+    let a = p.span(span::ABSTRACT_FIRST);
+    let b = p.span(span::ABSTRACT_LAST);
+    let c = p.span(span::CONCRETE_FIRST);
+    let d = p.span(span::CONCRETE_LAST);
     group(p.nodes, a, b, PLAIN, &mut out[..STATE_ROW]);
     group(p.nodes, c, d, PLAIN, &mut out[STATE_ROW..STATES_ROWS]);
     operation_rows(p, out);

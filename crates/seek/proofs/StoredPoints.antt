@@ -1,35 +1,22 @@
 -- A variable's value written into the arrays: they show the point with that value. Assumes nothing.
 use Prim.Native.Nat.{ℕ, ◌+◌, ◌<◌, ◌≤◌}
+use native.Mathlib.Decide.{dec_lt}
 use native.Mathlib.Omega.{arith}
 use mathlib.Core.Path.{◌≡◌, refl, sym, ap, ◌∙◌, subst}
-use mathlib.Core.Bool.{Bool, true, false, cond}
 use mathlib.Core.Logic.{◌⊎◌, inl, inr}
 use mathlib.Core.List.{List, []}
-use lib.Dec.{ltb}
 use lib.ListN.{get_or, length, set, length-set}
 use lib.Seq.{get_or-set_same, get_or-set_other}
 use lib.IntN.{ℤ, pos}
-use borrow.Author.Tests.{ltb-true, ltb-false}
 use Rattle.slot_carriers.specs.Cells.{count_in, value_in}
 use Rattle.points.specs.Points.{Point, moved, primed_slot, Tame}
+use Rattle.points.proofs.PointBindings.{primed-abstract, primed-concrete, primed-high}
 use Rattle.seek.specs.SeekPromises.{StoreAnswers}
 use Rattle.seek.proofs.MovedPoints.{at_moved}
 
 -- ---- primed slots
 primed-cases : (t : ℕ) → ((t < 8) × (primed_slot t ≡ t + 30)) ⊎ ((8 ≤ t) × (primed_slot t ≡ t + 14))
-unfolding primed_slot
-primed-cases t = go (ltb t 8) refl
-  where
-    go : (b : Bool) → ltb t 8 ≡ b → ((t < 8) × (cond b (t + 30) (t + 14) ≡ t + 30)) ⊎ ((8 ≤ t) × (cond b (t + 30) (t + 14) ≡ t + 14))
-    go true e = inl (ltb-true t 8 e, refl)
-    go false e = inr (ltb-false t 8 e, refl)
-
-primed-high : (t : ℕ) → 22 ≤ primed_slot t
-primed-high t = go (primed-cases t)
-  where
-    go : ((t < 8) × (primed_slot t ≡ t + 30)) ⊎ ((8 ≤ t) × (primed_slot t ≡ t + 14)) → 22 ≤ primed_slot t
-    go (inl p) = let e : primed_slot t ≡ t + 30 = p.1 in omega arith
-    go (inr p) = let l : 8 ≤ t = p.0 in let e : primed_slot t ≡ t + 14 = p.1 in omega arith
+primed-cases t = elim (dec_lt t 8) [ yes h ↦ inl (h, primed-abstract t h) | no h ↦ (let g : 8 ≤ t = omega arith in inr (g, primed-concrete t g)) ]
 
 primed-same : (t p : ℕ) → t < 16 → p < 16 → primed_slot t ≡ primed_slot p → t ≡ p
 primed-same t p l h e = go (primed-cases t) (primed-cases p)

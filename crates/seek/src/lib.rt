@@ -1,6 +1,10 @@
 // One primitive for all searching: the least number, from a given one on, of a binding of the variables of a search at which all its tests hold. `slots` has two arrays: the values
 // before and the primed ones; those of the after state under the plain slots.
 // Form 5: the slots and the memory are lent to be written beside a search that is only read: in a struct of all three each function would have to promise that the search is as it was.
+// Slots and memory as one value without the search: what the memory means, `Memo`, is of the search's table, so that no field of that value could say it, and each function would have the
+// same four clauses; `store` and `aim` take the slots alone, `nest::sweep` makes the memory and is lent the slots.
+// `slot < 38`: as a type it would be made in `seek` and in `store`, which takes any caller's number, each time from the fact that is asked there now, and be opened where the four small
+// functions that ask it compare or count.
 #![tactic(auto)]
 
 ghost use Rattle.std.specs.Prelude.{◌≡◌, ◌+◌, ◌<◌, ◌≤◌, MatchOption};
@@ -13,19 +17,18 @@ ghost use Rattle.seek.specs.SeekPromises.{StoreAsked, StoreAnswers, LevelAsked, 
 use evaluator::value;
 use memo::recall;
 use mentions::Mention;
-use plans::{PLAN, PartSearch};
+use plans::{GroupSize, PLAN, PartSearch};
 use points::plan::{FIRST_COUNT, FIRST_SLOT, HEAD, SECOND_SLOT};
 use points::slots::{ABSTRACT_PRIMED, AFTER, BEFORE, CONCRETE, CONCRETE_PRIMED};
 use slot_carriers::{CELLS, SLOTS, count_of, place_of, value_at};
 use std::ops::Range;
 
-// Bindings of the m variables of the search u from number j on: w in all; those from `from` on are looked at.
+// Bindings of the variables of the search u from number j on, how many there are of each: those from `from` on are looked at.
 #[derive(Clone, Copy)]
 pub struct Span {
     pub u: usize,
     pub j: usize,
-    pub m: usize,
-    pub w: usize,
+    pub size: GroupSize,
     pub from: usize,
 }
 
@@ -163,31 +166,31 @@ fn aim(s: &PartSearch<'_>, g: Target, slots: &mut [[i64; SLOTS]; 2]) -> Range<us
 }
 
 // The search among the bindings of a span. What it finds stays in the slots.
-// Form 1: where there is none the answer is span.w, the number behind the last: at all numbers before the answer some test fails, whether a binding is found or not, and the loops that go
-// from one to the next need that one fact. With an Option each would turn none back into span.w.
+// Form 1: where there is none the answer is span.size.bindings, the number behind the last: at all numbers before the answer some test fails, whether a binding is found or not, and the loops that go
+// from one to the next need that one fact. With an Option each would turn none back into span.size.bindings.
 pub fn seek(
     s: &PartSearch<'_>,
     span: Span,
     slots: &mut [[i64; SLOTS]; 2],
     memo: &mut [u64; memo::NUMBERS],
 ) -> usize
-    requires seek_asked { SeekAsked s.now.table.now s.now.plan.now s.now.cells.now span.u span.j span.m span.w span.from slots.old }
+    requires seek_asked { SeekAsked s.now.table.now s.now.plan.now s.now.cells.now span.u span.j span.size.variables span.size.bindings span.from slots.old }
     requires memo { Memo s.now.table.now memo.old }
-    ensures answers { SeekAnswers s.now.table.now s.now.plan.now s.now.cells.now span.u span.j span.m span.w span.from slots.old slots.new result }
+    ensures answers { SeekAnswers s.now.table.now s.now.plan.now s.now.cells.now span.u span.j span.size.variables span.size.bindings span.from slots.old slots.new result }
     ensures remembers { Memo s.now.table.now memo.new }
 {
-    if span.from == span.w {
-        return span.w;
+    if span.from == span.size.bindings {
+        return span.size.bindings;
     }
     if !level(s, span.u, span.j, slots, memo) {
-        return span.w;
+        return span.size.bindings;
     }
-    if span.m == 0 {
+    if span.size.variables == 0 {
         return span.from;
     }
     let slot = slot_of(s.plan, span.u, span.j);
     let n = count_of(s.cells, slot);
-    let v = span.w / n;
+    let v = span.size.bindings / n;
     let target = Target {
         u: span.u,
         l: span.j + 1,
@@ -202,8 +205,10 @@ pub fn seek(
         let rest = Span {
             u: span.u,
             j: span.j + 1,
-            m: span.m - 1,
-            w: v,
+            size: GroupSize {
+                variables: span.size.variables - 1,
+                bindings: v,
+            },
             from: r,
         };
         let k = seek(s, rest, slots, memo);
@@ -212,5 +217,5 @@ pub fn seek(
         }
         r = 0;
     }
-    span.w
+    span.size.bindings
 }

@@ -11,7 +11,7 @@ use Rattle.sets.specs.Division.{floor_div, floor_mod, Divides}
 
 -- ---- differences of natural numbers, by which is the greater
 
-sub_down : (m n : ℕ) → n ≤ m → sub_ℕ m n ≡ pos (m - n)
+pub sub_down : (m n : ℕ) → n ≤ m → sub_ℕ m n ≡ pos (m - n)
 sub_down m n h = ap (λ (t : Bool). cond t (negsuc (n - suc m)) (pos (m - n))) (le-ltb m n h)
 
 sub-up : (m n : ℕ) → m ≤ n → sub_ℕ m n ≡ neg_ℤ (pos (n - m))

@@ -118,7 +118,7 @@ neg_mag : (n : ℕ) → mag (neg_ℤ (pos n)) ≤ n
 neg_mag zero = omega arith
 neg_mag (suc n) = omega arith
 
-abs-small : (z : ℤ) (n : ℕ) → mag z < n → nat_abs z ≤ n
+pub abs-small : (z : ℤ) (n : ℕ) → mag z < n → nat_abs z ≤ n
 abs-small (pos a) n h = omega arith
 abs-small (negsuc a) n h = omega arith
 
@@ -173,11 +173,8 @@ add-mag (negsuc a) (negsuc b) m n h k = omega arith
 
 -- ---- as the machine has them: a number of 32 bits in 64
 
-pub wide_fits : {z : ℤ} → SFits w32 z → SFits w64 (to_z w32 (of_z w32 z))
-wide_fits {z} f = subst (SFits w64) (sym (to_z-of_z f)) (record { sfits = lt_of_lt_of_le f.sfits (lit≤ tt) })
-
-pub wide : {z : ℤ} → SFits w32 z → to_z w64 (of_z w64 (to_z w32 (of_z w32 z))) ≡ z
-wide f = to_z-of_z (wide_fits f) ∙ to_z-of_z f
+pub wide : {z a : ℤ} → SFits w32 z → a ≡ to_z w32 (of_z w32 z) → to_z w64 (of_z w64 a) ≡ z
+wide f e = rw (e ∙ to_z-of_z f) (to_z-of_z {w = w64} (record { sfits = lt_of_lt_of_le f.sfits (lit≤ tt) }))
 
 pub beq_same : (p q : Bool) → beq p q ≡ true → p ≡ q
 beq_same true true e = refl
@@ -191,27 +188,27 @@ beq_other true false e h = let z : ◌≡◌ {A = ℕ} 0 1 = cc in omega arith
 beq_other false true e h = let z : ◌≡◌ {A = ℕ} 0 1 = cc in omega arith
 beq_other false false e h = let z : ◌≡◌ {A = ℕ} 0 1 = cc in omega arith
 
-module _ (x y : ℤ) (fx : SFits w32 x) (fy : SFits w32 y) where
+module _ {x y a b : ℤ} (fx : SFits w32 x) (fy : SFits w32 y) (ex : a ≡ to_z w32 (of_z w32 x)) (ey : b ≡ to_z w32 (of_z w32 y)) where
   abbrev X : ℤ
-  X = to_z w64 (of_z w64 (to_z w32 (of_z w32 x)))
+  X = to_z w64 (of_z w64 a)
 
   abbrev Y : ℤ
-  Y = to_z w64 (of_z w64 (to_z w32 (of_z w32 y)))
+  Y = to_z w64 (of_z w64 b)
 
-  pub is_zero : of_z w64 (to_z w32 (of_z w32 y)) ≡ 0 → y ≡ pos 0
-  is_zero h = sym (wide fy) ∙ ap (to_z w64) h
+  pub is_zero : of_z w64 b ≡ 0 → y ≡ pos 0
+  is_zero h = sym (wide fy ey) ∙ ap (to_z w64) h
 
-  not_zero : (of_z w64 (to_z w32 (of_z w32 y)) ≡ 0 → ⊥) → y ≡ pos 0 → ⊥
-  not_zero f e = f (ap (λ (z : ℤ). of_z w64 (to_z w32 (of_z w32 z))) e)
+  not_zero : (of_z w64 b ≡ 0 → ⊥) → y ≡ pos 0 → ⊥
+  not_zero f e = f (ap (of_z w64) (ey ∙ to_z-of_z fy ∙ e))
 
   pub sign-of : {t : Bool} → lt_z X (to_z w64 0) ≡ t → lt_z x (pos 0) ≡ t
-  sign-of h = ap (λ (z : ℤ). lt_z z (pos 0)) (sym (wide fx)) ∙ h
+  sign-of h = ap (λ (z : ℤ). lt_z z (pos 0)) (sym (wide fx ex)) ∙ h
 
   ratio : quot_z X Y ≡ quot_z x y
-  ratio = ap₂ quot_z (wide fx) (wide fy)
+  ratio = ap₂ quot_z (wide fx ex) (wide fy ey)
 
   over : rem_z X Y ≡ rem_z x y
-  over = ap₂ rem_z (wide fx) (wide fy)
+  over = ap₂ rem_z (wide fx ex) (wide fy ey)
 
   quot_mag : mag (quot_z x y) < 2 ^ 31 + 1
   quot_mag = omega (arith, mag_abs (quot_z x y), quot_abs x y, abs-small x (2 ^ 31) fx.sfits)
@@ -234,19 +231,19 @@ module _ (x y : ℤ) (fx : SFits w32 x) (fy : SFits w32 y) where
   signs : {a b : ℤ} → a ≡ rem_z x y → b ≡ y → (lt_z a (pos 0) ≡ lt_z b (pos 0)) → lt_z (rem_z x y) (pos 0) ≡ lt_z y (pos 0)
   signs p q e = ap (λ (z : ℤ). lt_z z (pos 0)) (sym p) ∙ e ∙ ap (λ (z : ℤ). lt_z z (pos 0)) q
 
-  module _ (d : of_z w64 (to_z w32 (of_z w32 y)) ≡ 0 → ⊥) where
+  module _ (d : of_z w64 b ≡ 0 → ⊥) where
     pub case-exact : of_z w64 (rem_z X Y) ≡ 0 → to_z w64 (of_z w64 (quot_z X Y)) ≡ floor_div x y
     case-exact h = back ∙ exact x y (not_zero d) (sym rem-back ∙ ap (to_z w64) h)
 
     pub case_same : beq (lt_z (to_z w64 (of_z w64 (rem_z X Y))) (to_z w64 0)) (lt_z Y (to_z w64 0)) ≡ true → to_z w64 (of_z w64 (quot_z X Y)) ≡ floor_div x y
-    case_same h = back ∙ same_sign x y (not_zero d) (signs rem-back (wide fy) (beq_same _ _ h))
+    case_same h = back ∙ same_sign x y (not_zero d) (signs rem-back (wide fy ey) (beq_same _ _ h))
 
     pub case_other : (of_z w64 (rem_z X Y) ≡ 0 → ⊥) → beq (lt_z (to_z w64 (of_z w64 (rem_z X Y))) (to_z w64 0)) (lt_z Y (to_z w64 0)) ≡ false
         → to_z w64 (of_z w64 (to_z w64 (of_z w64 (quot_z X Y)) -ℤ pos 1)) ≡ floor_div x y
     case_other f h =
         to_z-of_z less-fits ∙ ap (λ (z : ℤ). z -ℤ pos 1) back
         ∙ other_sign x y (not_zero d) (λ e. f (ap (of_z w64) (over ∙ e)))
-        (λ e. beq_other _ _ h (ap (λ (z : ℤ). lt_z z (pos 0)) rem-back ∙ e ∙ ap (λ (z : ℤ). lt_z z (pos 0)) (sym (wide fy))))
+        (λ e. beq_other _ _ h (ap (λ (z : ℤ). lt_z z (pos 0)) rem-back ∙ e ∙ ap (λ (z : ℤ). lt_z z (pos 0)) (sym (wide fy ey))))
 
   -- what is left, for a q that is the quotient
   module _ (q : ℤ) (e : q ≡ floor_div x y) where
@@ -260,13 +257,13 @@ module _ (x y : ℤ) (fx : SFits w32 x) (fy : SFits w32 y) where
     product_abs = subst (λ (n : ℕ). n ≤ 2 ^ 31 * 2 ^ 31) (sym (times_abs q y)) (mul-le-mul quotient_abs (abs-small y (2 ^ 31) fy.sfits))
 
     product : to_z w64 (of_z w64 q) *ℤ Y ≡ q *ℤ y
-    product = ap₂ ◌*ℤ◌ quotient-back (wide fy)
+    product = ap₂ ◌*ℤ◌ quotient-back (wide fy ey)
 
     pub product-fits : SFits w64 (to_z w64 (of_z w64 q) *ℤ Y)
     product-fits = rw product (record { sfits = lt_of_le_of_lt (mag_abs (q *ℤ y)) (lt_of_le_of_lt product_abs (lit< tt)) })
 
     rest : X -ℤ to_z w64 (of_z w64 (to_z w64 (of_z w64 q) *ℤ Y)) ≡ x -ℤ q *ℤ y
-    rest = ap₂ ◌-ℤ◌ (wide fx) (to_z-of_z product-fits ∙ product)
+    rest = ap₂ ◌-ℤ◌ (wide fx ex) (to_z-of_z product-fits ∙ product)
 
     pub rest-fits : SFits w64 (X -ℤ to_z w64 (of_z w64 (to_z w64 (of_z w64 q) *ℤ Y)))
     rest-fits =

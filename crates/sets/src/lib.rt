@@ -5,19 +5,17 @@ ghost use Rattle.std.specs.Prelude.{◌≡◌, ◌<◌, ◌≤◌, ◌/◌, ◌%
 ghost use Rattle.sets.specs.Sets.{has, union, without, inter, single, size, pair, dom, ran};
 ghost use Rattle.sets.specs.Division.{floor_div, floor_mod};
 
-// The bits of a set.
+// The bits of a set, and as many as a place of a pair.
+// Form 4: a constant's value calls no function, so that `as` stands in it.
 pub const BITS: u32 = 16;
 
-const BITS_WIDE: u64 = BITS as u64;
+pub const PLACES: u64 = BITS as u64;
 
 // Is k a member of s?
 pub fn has(s: u16, k: u64) -> bool
     ensures { result ≡ has s k }
 {
-    if k < BITS_WIDE {
-        return (s >> k) % 2 == 1;
-    }
-    false
+    k < PLACES && (s >> k) % 2 == 1
 }
 
 pub fn union(s: u16, t: u16) -> u16
@@ -42,10 +40,7 @@ pub fn inter(s: u16, t: u16) -> u16
 pub fn single(k: u32) -> u16
     ensures { (k < 16 → result ≡ single k) × (16 ≤ k → result ≡ 0) }
 {
-    if k < BITS {
-        return 1 << k;
-    }
-    0
+    1u16.checked_shl(k).unwrap_or(0)
 }
 
 // How many members s has.
@@ -59,14 +54,14 @@ pub fn size(s: u16) -> u32
 pub fn pair(m: u32, i: u32, j: u32) -> u64
     ensures { result ≡ pair m i j }
 {
-    (i as u64) * (m as u64) + (j as u64)
+    u64::from(i) * u64::from(m) + u64::from(j)
 }
 
 // The m bits of s from a place on, moved down to the lowest.
 pub fn row(s: u16, from: u64, m: u32) -> u16
     ensures { result ≡ s / 2 ^ from % 2 ^ m }
 {
-    if from >= BITS_WIDE {
+    if from >= PLACES {
         return 0;
     }
     let t = s >> from;
@@ -77,6 +72,8 @@ pub fn row(s: u16, from: u64, m: u32) -> u16
 }
 
 // The first sides of a set of pairs between sets of n and of m elements. As many rows as the word has bits are enough: the others are empty.
+// Form 2: `points::masks::mask_of` makes such a mask over usize into 64 bits; with it the loop of three lines would be a closure with three conversions (`n`,
+// `i`, the mask).
 pub fn dom(n: u32, m: u32, s: u16) -> u16
     ensures { result ≡ dom n m s }
 {
@@ -104,11 +101,13 @@ pub fn ran(n: u32, m: u32, s: u16) -> u16
 
 // x div y, rounded toward minus infinity.
 // Form 1: it is total, as the definition is, which by 0 makes -1 of an x below 0 and 0 of any other; no dossier divides by 0 (document 01, number 14).
+// Form 4: the library's `div_euclid` rounds so where the divisor is above 0 alone; with it both signs are turned first, and there is no line of which the must-fail edit `div_toward_zero`
+// makes one that rounds every quotient toward zero.
 pub fn floor_div(x: i32, y: i32) -> i64
     ensures { result ≡ floor_div x y }
 {
-    let a = x as i64;
-    let b = y as i64;
+    let a = i64::from(x);
+    let b = i64::from(y);
     if b == 0 {
         return if a < 0 { -1 } else { 0 };
     }
@@ -127,5 +126,5 @@ pub fn floor_div(x: i32, y: i32) -> i64
 pub fn floor_mod(x: i32, y: i32) -> i64
     ensures { result ≡ floor_mod x y }
 {
-    x as i64 - floor_div(x, y) * (y as i64)
+    i64::from(x) - floor_div(x, y) * i64::from(y)
 }

@@ -23,6 +23,10 @@ abbrev by_shape : (s a d l : ℕ) → ℤ
 by_shape s a d l =
     elim (eqb s 2) [ true ↦ pos a -ℤ pos 1000 +ℤ pos d | false ↦ elim (ltb s 5) [ true ↦ pos d | false ↦ pos l ] ]
 
+-- no shape below 5 is one from 5 on
+pub low-shape : {A : Type 0} (s k : ℕ) → s ≡ k → k < 5 → 5 ≤ s → A
+low-shape s k e h l = absurd (omega arith)
+
 module _ (cells : List ℕ) (slot : ℕ) where
   by : (d k : ℕ) → shape_in cells slot ≡ k → value_in cells slot d ≡ by_shape k (first_in cells slot) d (get_or cells (first_in cells slot + d) 0)
   unfolding value_in
@@ -36,9 +40,6 @@ module _ (cells : List ℕ) (slot : ℕ) where
   value-by (pairs_in relation g k) d h e = by d 4 e
   value-by (pairs_in partial g k) d h e = by d 5 e.0 ∙ ap pos (e.1.each d h)
   value-by (pairs_in total g k) d h e = by d 6 e.0 ∙ ap pos (e.1.each d h)
-
-  low-shape : {A : Type 0} (s k : ℕ) → s ≡ k → k < 5 → 5 ≤ s → A
-  low-shape s k e h l = absurd (omega arith)
 
   inside : (a n d : ℕ) → a + n ≤ 9216 → d < n → a + d < 9216
   inside a n d h k = omega arith

@@ -13,6 +13,14 @@ use Rattle.slot_carriers.specs.Cells.{count_in, shape_in, first_in, value_in, Re
 use Rattle.slot_carriers.proofs.ShapedValues.{listed-value}
 use Rattle.slot_carriers.proofs.Halving.{either}
 
+-- n numbers of a list, from the place a on
+pub part-long : (xs : List ℕ) (a n : ℕ) → a + n ≤ length xs → length (take (a + n - a) (drop a xs)) ≡ n
+part-long xs a n h =
+    length-take-le (a + n - a) (drop a xs) (let q : length (drop a xs) ≡ length xs - a = length-drop a xs in omega arith) ∙ (let q : a + n - a ≡ n = omega arith in q)
+
+pub part_number : (xs : List ℕ) (a n d : ℕ) → d < n → get_or (take (a + n - a) (drop a xs)) d 0 ≡ get_or xs (a + d) 0
+part_number xs a n d h = get_or-take _ (drop a xs) d 0 (omega arith) ∙ get_or-drop a xs d 0
+
 module _ (cells : List ℕ) (slot n : ℕ) (r : Readable cells slot) (e : n ≡ count_in cells slot) (listed : 5 ≤ shape_in cells slot) (some : n ≡ 0 → ⊥) where
   pub list-room : first_in cells slot + n ≤ 9216
   list-room =
@@ -24,19 +32,10 @@ module _ (cells : List ℕ) (slot n : ℕ) (r : Readable cells slot) (e : n ≡ 
   list = take (first_in cells slot + n - first_in cells slot) (drop (first_in cells slot) cells)
 
   pub list-long : length cells ≡ 9216 → length list ≡ n
-  list-long l =
-      let room = list-room in
-      length-take-le (first_in cells slot + n - first_in cells slot) (drop (first_in cells slot) cells) (let q : length (drop (first_in cells slot) cells) ≡ length cells - first_in cells slot = length-drop (first_in cells slot) cells in omega arith)
-      ∙ (let q : first_in cells slot + n - first_in cells slot ≡ n = omega arith in q)
-
-  number : (d : ℕ) → d < n → get_or list d 0 ≡ get_or cells (first_in cells slot + d) 0
-  number d h = get_or-take _ (drop (first_in cells slot) cells) d 0 (omega arith) ∙ get_or-drop (first_in cells slot) cells d 0
+  list-long l = let room = list-room in part-long cells (first_in cells slot) n (omega arith)
 
   pub list-values : (d : ℕ) → d < n → pos (get_or list d 0) ≡ value_in cells slot d
-  list-values d h = ap pos (number d h) ∙ listed-value cells slot d (shape_in cells slot) refl not-two listed
-    where
-      not-two : shape_in cells slot ≡ 2 → ⊥
-      not-two q = omega arith
+  list-values d h = ap pos (part_number cells (first_in cells slot) n d h) ∙ listed-value cells slot d (shape_in cells slot) refl listed
 
   below : (i j : ℕ) → i < j → j < n → get_or list i 0 ≤ get_or list j 0
   below i j h k =

@@ -10,12 +10,15 @@ use lib.Seq.{get_or-set_same, get_or-set_other}
 use lib.IntN.{ℤ, pos}
 use Rattle.carriers.specs.StaticRulesCarriers.{Variable, count_of}
 use Rattle.carriers.specs.StaticRulesLimits.{binding_count}
+use Rattle.carriers.specs.MeaningMeaning.{Binding}
+use Rattle.carriers.specs.MeaningBindings.{bindings}
 use Rattle.carriers.specs.ValuesByNumber.{digit, binding_at}
 use Rattle.carriers.proofs.Values.{count-some}
-use Rattle.carriers.proofs.Bindings.{bindings-some, bindings-at, digit-small, digit-below, again_rest}
+use Rattle.carriers.proofs.Bindings.{bindings-some, bindings-at, at-most, digit-small, digit-below, again_rest}
 use Rattle.slot_carriers.specs.Cells.{count_in, value_in, Reached, CellOf}
 use Rattle.slot_carriers.specs.CellGroups.{CellsOf, Grouped, Counts, Holding, HoldsAt, HoldsBinding, Others}
 use Rattle.slot_carriers.proofs.CarrierCells.{readable, value_of}
+use Rattle.slot_carriers.proofs.KeptCells.{less_one}
 
 -- the first variable of a group, and the others
 pub record Headed (cells : List ℕ) (s n : ℕ) : Type 0 where
@@ -36,9 +39,6 @@ grows (suc a) b h = omega arith
 count-rest : (v : Variable) (vs : List Variable) → binding_count (v ∷ vs) ≤ 4096 → binding_count vs ≤ 4096
 unfolding binding_count
 count-rest v vs f = omega (arith, grows (count_of v.carrier) (binding_count vs) (count-some v.carrier))
-
-less_one : (m n : ℕ) → suc m ≡ n → m ≡ n - 1
-less_one m n e = omega arith
 
 made : (cells : List ℕ) (s n : ℕ) (v : Variable) (vs : List Variable) → CellsOf cells s (v ∷ vs) → length (v ∷ vs) ≡ n → binding_count (v ∷ vs) ≤ 4096
     → Headed cells s n
@@ -170,6 +170,22 @@ module _ {A : Type 0} (d : A) (l m r : List A) (s n : ℕ) (x : A) (e : m ≡ se
 
   pub first-kept : s < length l → get_or r s d ≡ x
   first-kept h = o.below s (omega arith) ∙ ap (λ (z : List A). get_or z s d) e ∙ get_or-set_same l s x d h
+
+-- what is written elsewhere leaves a binding in its slots
+holding-kept : (σ τ : List ℤ) (s : ℕ) (bs : Binding) → ((i : ℕ) → s ≤ i → i < s + length bs → get_or τ i (pos 0) ≡ get_or σ i (pos 0)) → Holding σ s bs → Holding τ s bs
+unfolding Holding
+holding-kept σ τ s [] k h = tt
+holding-kept σ τ s (b ∷ bs) k h = (k s (omega arith) (first (length bs)) ∙ h.0, holding-kept σ τ (suc s) bs (λ i m l. k i (omega arith) (next i (length bs) l)) h.1)
+  where
+    first : (n : ℕ) → s < s + suc n
+    first n = omega arith
+
+    next : (i n : ℕ) → i < suc s + n → i < s + suc n
+    next i n l = omega arith
+
+pub listed-kept : (vs : List Variable) (k s : ℕ) (σ τ : List ℤ) → ((i : ℕ) → s ≤ i → i < s + length vs → get_or τ i (pos 0) ≡ get_or σ i (pos 0))
+    → Holding σ s (get_or (bindings vs) k []) → Holding τ s (get_or (bindings vs) k [])
+listed-kept vs k s σ τ e h = let m = at-most vs k in holding-kept σ τ s (get_or (bindings vs) k []) (λ i f l. e i f (omega arith)) h
 
 -- ---- from the last variable to the first: how many bindings those from i on have
 

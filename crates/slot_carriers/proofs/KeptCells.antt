@@ -65,7 +65,7 @@ module _ (old : List ℕ) (s : ℕ) (new : List ℕ) (t from end : ℕ) (low : t
 next_place : (table groups : List ℕ) (p : ℕ) (vs : List Variable) → NodesOf table groups (suc p) vs → NodesOf table groups (p + 1) vs
 next_place table groups p vs w = subst (λ (k : ℕ). NodesOf table groups k vs) (sym (add-one p)) w
 
-less_one : (m n : ℕ) → suc m ≡ n → m ≡ n - 1
+pub less_one : (m n : ℕ) → suc m ≡ n → m ≡ n - 1
 less_one m n e = omega arith
 
 -- a sum is at most the product and 1
@@ -268,34 +268,33 @@ module _ (old new : List ℕ) (from end : ℕ) where
     cells-again vs (suc s) (suc t) (omega arith) (λ j h. at_next s t j (e (suc j) (omega arith))) (λ j h. list-next s j (b (suc j) (omega arith))) w.1,
   )
 
--- a copied group
-pub copied-cells : (n base to : ℕ) (old new : List ℕ) (vs : List Variable) → to + n ≤ 64 → Copied n base to old new → length vs ≡ n
-    → ((j : ℕ) → base ≤ j → j < base + n → ListBetween old j 256 9216) → CellsOf old base vs → CellsOf new to vs
-copied-cells n base to old new vs low c e b w =
-    cells-again old new 256 9216 vs base to (omega arith) (λ j h. same j (omega arith)) (λ j h. b (base + j) (omega arith) (omega arith)) w
+-- a cell of a copied group, and the group
+pub copied-cell : (n base to end : ℕ) (old new : List ℕ) → to + n ≤ 64 → Copied n base to old new → (j : ℕ) → j < n → SameCell old (base + j) new (to + j) 256 end
+copied-cell n base to end old new low c j h =
+    record {
+      count = first-number;
+      shape = number 1 (omega arith);
+      first = number 2 (omega arith);
+      list = λ i k l. c.others.above i (omega arith);
+    }
   where
-    number : (j i : ℕ) → j < n → i < 4 → get_or new (4 * (to + j) + i) 0 ≡ get_or old (4 * (base + j) + i) 0
-    number j i h k =
+    number : (i : ℕ) → i < 4 → get_or new (4 * (to + j) + i) 0 ≡ get_or old (4 * (base + j) + i) 0
+    number i k =
         let p : 4 * to + (4 * j + i) ≡ 4 * (to + j) + i = omega arith in
         let q : 4 * base + (4 * j + i) ≡ 4 * (base + j) + i = omega arith in
         subst (λ (m : ℕ). get_or new m 0 ≡ get_or old (4 * (base + j) + i) 0) p
         (subst (λ (m : ℕ). get_or new (4 * to + (4 * j + i)) 0 ≡ get_or old m 0) q (c.each (4 * j + i) (omega arith)))
 
-    first-number : (j : ℕ) → j < n → count_in new (to + j) ≡ count_in old (base + j)
-    first-number j h =
-        let p : 4 * to + 4 * j ≡ 4 * (to + j) = omega arith in
-        let q : 4 * base + 4 * j ≡ 4 * (base + j) = omega arith in
-        subst (λ (m : ℕ). get_or new m 0 ≡ get_or old (4 * (base + j)) 0) p
-        (subst (λ (m : ℕ). get_or new (4 * to + 4 * j) 0 ≡ get_or old m 0) q (c.each (4 * j) (omega arith)))
+    first-number : count_in new (to + j) ≡ count_in old (base + j)
+    first-number =
+        let p : 4 * (to + j) + 0 ≡ 4 * (to + j) = omega arith in
+        let q : 4 * (base + j) + 0 ≡ 4 * (base + j) = omega arith in
+        subst (λ (m : ℕ). get_or new m 0 ≡ get_or old (4 * (base + j)) 0) p (subst (λ (m : ℕ). get_or new (4 * (to + j) + 0) 0 ≡ get_or old m 0) q (number 0 (omega arith)))
 
-    same : (j : ℕ) → j < n → SameCell old (base + j) new (to + j) 256 9216
-    same j h =
-        record {
-          count = first-number j h;
-          shape = number j 1 h (omega arith);
-          first = number j 2 h (omega arith);
-          list = λ i k l. c.others.above i (omega arith);
-        }
+pub copied-cells : (n base to : ℕ) (old new : List ℕ) (vs : List Variable) → to + n ≤ 64 → Copied n base to old new → length vs ≡ n
+    → ((j : ℕ) → base ≤ j → j < base + n → ListBetween old j 256 9216) → CellsOf old base vs → CellsOf new to vs
+copied-cells n base to old new vs low c e b w =
+    cells-again old new 256 9216 vs base to (omega arith) (λ j h. copied-cell n base to 9216 old new low c j (omega arith)) (λ j h. b (base + j) (omega arith) (omega arith)) w
 
 -- a cell beside a group that is made, and the lists before its lists
 pub beside-made : {table groups : List ℕ} {p n slot at : ℕ} {old new : List ℕ} {r : ℕ} → CellsMade table groups p n slot at old new r → slot + n ≤ 64 → 256 ≤ at

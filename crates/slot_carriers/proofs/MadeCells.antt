@@ -13,6 +13,7 @@ use Rattle.carriers.specs.ValuesByNumber.{pair_set_at, partial_mask, total_mask}
 use Rattle.slot_carriers.specs.Cells.{count_in, shape_in, first_in, Listed, PairsCell, Shaped}
 use Rattle.slot_carriers.specs.CellGroups.{Others}
 use Rattle.slot_carriers.specs.TypeNodes.{Stands, TypeNode, CountIs, FunctionIs, Functions, CellWritten, Placed, CellMade}
+use Rattle.slot_carriers.proofs.CarrierCells.{low-shape}
 
 -- ---- three numbers
 
@@ -60,9 +61,6 @@ count_is s a b n (pairs_in total g h) w e = w.totals e.0 (some b _ e.2) e.3 ∙ 
 
 high-shape : {A : Type 0} (s k : ℕ) → s ≡ k → 5 ≤ k → s < 5 → A
 high-shape s k e h l = absurd (omega arith)
-
-low-shape : {A : Type 0} (s k : ℕ) → s ≡ k → k < 5 → 5 ≤ s → A
-low-shape s k e h l = absurd (omega arith)
 
 power-few : (n : ℕ) → n ≤ 16 → 2 ^ n ≤ 65536
 power-few n h = pow_mono {i = n} {j = 16} h

@@ -6,9 +6,7 @@ ghost use Rattle.slot_carriers.specs.DeclaredGroups.{Declared, CellsMade, Copied
 
 use crate::{CELL, CELLS, FIRST, SHAPE, type_shapes};
 use form::node;
-
-// How many numbers the reader leaves of the groups of variables (search_groups/src/groups).
-const GROUPS: usize = 160;
+use form::node::GROUPS;
 
 // How many values a type has. The sets of n bits are as many as the partial functions from n elements to one.
 pub fn type_count(shape: u32, a: u32, b: u32) -> u32
@@ -101,9 +99,8 @@ pub fn set_cells(
 {
     let n = usize::from(groups[row]);
     let mut at = from;
-    for i in 0..n {
-        let q = usize::from(groups[row + 1 + i]);
-        at = set_cell(table, q + node::SIZE, base + i, at, cells);
+    for (i, q) in groups[row + 1..row + 1 + n].iter().enumerate() {
+        at = set_cell(table, usize::from(*q) + node::SIZE, base + i, at, cells);
     }
     at
 }

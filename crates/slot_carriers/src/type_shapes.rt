@@ -1,5 +1,5 @@
 // The shapes of types (form/src/shapes), as numbers of the cells.
-// Form 1: they stand in the lent array of the cells (DECISIONS L9), whose numbers have 32 bits where a node's have 16.
+// Form 1: they stand in the cells, whose numbers have 32 bits where a node's have 16.
 use form::shapes;
 
 pub const SET: u32 = shapes::SET as u32;

@@ -12,8 +12,7 @@ use Rattle.static_rules.specs.Carriers.{Variable}
 use Rattle.static_rules.specs.Scope.{Scope, Context, unprimed}
 use Rattle.meaning.specs.Meaning.{Binding, Environment}
 use Rattle.meaning.specs.Bindings.{Over}
-use Rattle.meaning.specs.Operations.{environment, abstract_bindings, concrete_bindings}
-use Rattle.carriers.proofs.Bindings.{bindings-count}
+use Rattle.meaning.specs.Operations.{environment}
 use Rattle.table_places.specs.ResolvedTable.{Slots}
 use Rattle.table_places.specs.DossierTable.{abstract_slots, concrete_slots}
 use Rattle.evaluation.specs.EvaluationByNumber.{Values}
@@ -21,16 +20,15 @@ use Rattle.evaluation.specs.SlotValues.{Slotted, Held}
 use Rattle.truths.specs.Promises.{Answers}
 use Rattle.states.specs.ReadPredicatesPredicateRows.{RowsAt, no_rows, more_rows, ContextAt}
 use Rattle.states.specs.StateTests.{Placed}
-use Rattle.states.specs.Promises.{ContextAsked, AbstractIn, ConcreteIn}
-use Rattle.states.proofs.StateLaws.{ContextOf, retrieve-context, asked-at, over-append, slotted-append}
-use Rattle.part_places.specs.ReadingsReadings.{ReadingOf}
+use Rattle.states.specs.Promises.{ContextAsked}
+use Rattle.states.proofs.StateLaws.{ContextOf, retrieve-context, asked-at, both-in}
 use Rattle.plans.specs.declared.Part.{Part}
 use Rattle.part_places.specs.PartTestsPartsByNumber.{abstract_at, concrete_at}
 use Rattle.part_places.specs.Places.{PartSet}
 use Rattle.state_facts.specs.Placings.{PairBound}
-use Rattle.state_facts.specs.Reads.{abstract_count, concrete_count, StatesRead, SearchAsked}
+use Rattle.state_facts.specs.Reads.{StatesRead, SearchAsked}
 use Rattle.state_facts.specs.FalseConjuncts.{FirstFalse, none_false, false_here, false_later, Every, In, FirstIs, ContextFirst, ContextIs, pair_of, FalsePair, FalseConjunct}
-use Rattle.state_facts.proofs.SearchLaws.{abstract_in, concrete_in, states-read}
+use Rattle.state_facts.proofs.SearchLaws.{abstract_in, concrete_in, abstracts, concretes, states-read}
 
 -- ---- row by row
 
@@ -101,14 +99,6 @@ held_in {d = d} {vs = vs} {X} {W} {b} {σ} {K} x e k h =
 
 -- ---- retrieve
 
-both-in : (d : Dossier) (a c : Binding) (σ : Values) → AbstractIn d a σ → ConcreteIn d c σ
-    → Placed (unprimed d d.abstract ++ unprimed d d.concrete) (abstract_slots d ++ concrete_slots d) (a ++ c) σ
-both-in d a c σ h k = record {
-  over = over-append (unprimed d d.abstract) (unprimed d d.concrete) a c h.over k.over;
-  slotted = slotted-append (abstract_slots d) (concrete_slots d) a c σ h.slotted k.slotted;
-  long = h.long;
-}
-
 module _ {table rows firsts cells : List ℕ} {p : Part} {a c : ℕ} where
   module _ {σ : Values} (B : PairBound cells p a c σ) (e : length σ ≡ 64) (la : a < p.meeting.bindings) (lc : c < p.concretes.bindings) where
     placed_pair : (d : Dossier) → StatesRead table rows firsts cells p d
@@ -127,16 +117,9 @@ module _ {table rows firsts cells : List ℕ} {p : Part} {a c : ℕ} where
 
   pub false_conjunct-is : {groups : List ℕ} {operations : ℕ} {r : Option ℕ} → PartSet table groups 0 cells p → FalsePair table rows firsts cells p a c r
       → FalseConjunct table rows firsts groups operations a c r
-  unfolding abstract_bindings concrete_bindings
   false_conjunct-is {groups} P w = record {
     first = λ d R m la lc K W x k.
-        w.first d (states-read P d R) (subst (λ (n : ℕ). a < n) (abstracts d R) la) (subst (λ (n : ℕ). c < n) (concretes d R) lc) K W x k;
-    no_abstract = λ d R l. w.no_abstract (subst (λ (n : ℕ). n ≤ a) (abstracts d R) l);
-    no_concrete = λ d R l. w.no_concrete (subst (λ (n : ℕ). n ≤ c) (concretes d R) l);
+        w.first d (states-read P d R) (subst (λ (n : ℕ). a < n) (sym (abstracts (states-read P d R))) la) (subst (λ (n : ℕ). c < n) (sym (concretes (states-read P d R))) lc) K W x k;
+    no_abstract = λ d R l. w.no_abstract (subst (λ (n : ℕ). n ≤ a) (sym (abstracts (states-read P d R))) l);
+    no_concrete = λ d R l. w.no_concrete (subst (λ (n : ℕ). n ≤ c) (sym (concretes (states-read P d R))) l);
   }
-    where
-      abstracts : (d : Dossier) → ReadingOf table rows firsts groups d → abstract_count d ≡ p.meeting.bindings
-      abstracts d R = bindings-count (unprimed d d.abstract) ∙ sym (states-read P d R).are.abstracts.count
-
-      concretes : (d : Dossier) → ReadingOf table rows firsts groups d → concrete_count d ≡ p.concretes.bindings
-      concretes d R = bindings-count (unprimed d d.concrete) ∙ sym (states-read P d R).are.concretes.count

@@ -44,9 +44,10 @@ use Rattle.state_facts.specs.Placings.{StatesSized, StatesBound, ParametersSized
 use Rattle.state_facts.specs.Reads.{concrete_count, ReadAsked}
 use Rattle.state_facts.specs.FalseConjuncts.{FirstFalse, none_false, false_here, false_later, Guard, guard_test, In, Throughout, ContextFirst, ContextIs}
 use Rattle.state_facts.specs.FalseConjuncts.{StepFrom, OperationRead, GuardAsked, FalseStep, FalseGuard}
+use Rattle.step_searches.proofs.ConcreteStates.{slotted-there}
 use Rattle.state_facts.proofs.PlacedGroups.{over-at, states-kept}
 use Rattle.state_facts.proofs.ShownLaws.{operation-states, operation-parameters}
-use Rattle.state_facts.proofs.SearchLaws.{slotted-at, placed_at}
+use Rattle.state_facts.proofs.SearchLaws.{placed_at}
 use Rattle.state_facts.proofs.ConjunctLaws.{held_in, context-as}
 
 -- ---- a row
@@ -146,7 +147,7 @@ module _ (d : Dossier) (op : Operation) where
             (over-append (cs ++ ks) (inputs d op) (b ++ after k) i (over-append cs ks b (after k) B.over over-k) I.over) O.over;
         slotted = subst (λ (x : Binding). Slotted (step_slots d op) x σ) (sym (append_assoc (b ++ after k) i o))
             (slotted-append (concrete_slots d ++ slotted 22 ks) (parameter_slots d op) (b ++ after k) (i ++ o) σ
-            (slotted-append (concrete_slots d) (slotted 22 ks) b (after k) σ B.slotted (slotted-at ks (after k) 22 σ over-k (holding-after k 22 σ hk)))
+            (slotted-append (concrete_slots d) (slotted 22 ks) b (after k) σ B.slotted (slotted-there 22 ks (after k) σ over-k (holding-after k 22 σ hk)))
             (slotted-append (slotted 16 (inputs d op)) (slotted 19 (outputs d op)) i o σ I.slotted O.slotted));
         long = B.long;
       }

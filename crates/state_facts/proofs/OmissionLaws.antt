@@ -2,15 +2,13 @@
 use mathlib.Core.Path.{◌≡◌, refl, sym, subst, ◌∙◌}
 use mathlib.Core.Bool.{Bool, true, false}
 use mathlib.Core.List.{List}
-use Prim.Native.Nat.{ℕ, zero, suc, ◌+◌, ◌-◌, ◌*◌, ◌/◌, ◌%◌, ◌^◌, ◌<◌, ◌≤◌}
+use Prim.Native.Nat.{ℕ, zero, suc, ◌+◌, ◌*◌, ◌/◌, ◌%◌, ◌<◌, ◌≤◌}
 use native.Mathlib.Nat.{mod-lt, zero-lt-suc}
 use native.Mathlib.Omega.{arith}
-use mir.Val.{bool_byte}
 use lib.ListN.{get_or, length}
-use lib.Pow.{pow_mono}
 use Rattle.sets.specs.Sets.{has}
-use Rattle.sets.proofs.MaskBits.{Bits, more-bits, member-below}
-use Rattle.sets.proofs.Members.{has-past, under-power}
+use Rattle.sets.proofs.MaskBits.{member-below}
+use Rattle.sets.proofs.Members.{has-past}
 use Rattle.form.specs.Tree.{Pred, Dossier}
 use Rattle.static_rules.specs.Carriers.{Variable}
 use Rattle.static_rules.specs.Scope.{Scope}
@@ -18,11 +16,12 @@ use Rattle.meaning.proofs.Places.{below-entry}
 use Rattle.table_places.specs.ResolvedTable.{Slots}
 use Rattle.mentions.specs.MentionPromises.{TruthFree, TruthSays}
 use Rattle.mentions.proofs.FreeNodes.{refused}
+use Rattle.points.specs.Masks.{MaskOf}
 use Rattle.states.specs.ReadPredicatesPredicateRows.{RowsAt, no_rows, more_rows, TestsOf}
 use Rattle.states.proofs.StateLaws.{ContextOf, abstract-context, concrete-context, ainit-context, cinit-context, retrieve-context}
 use Rattle.states.proofs.StepLaws.{abstract-operation, concrete-operation}
 use Rattle.state_facts.specs.Reads.{ReadAsked}
-use Rattle.state_facts.specs.Omissions.{RowsStand, RowsFree, RowsSay, BitsSay, LeftOut, ContextStands}
+use Rattle.state_facts.specs.Omissions.{RowsStand, RowsSay, LeftOut, ContextStands}
 
 -- ---- row by row
 
@@ -39,9 +38,6 @@ module _ {table rows : List ℕ} {to : ℕ} where
     pub stand-inside : at + 8 ≤ 16384
     stand-inside = let l = inside_of a.scope a.slots at a.conjuncts a.stand h in omega (arith, l.0, a.low)
 
-    pub stand-low : get_or rows (at + 1) 0 ≤ 16384
-    stand-low = (inside_of a.scope a.slots at a.conjuncts a.stand h).1
-
     pub stand-rest : RowsStand table rows (at + 8) to
     stand-rest = rest_of a.scope a.slots at a.conjuncts a.low a.stand h
 
@@ -53,46 +49,16 @@ module _ {table rows : List ℕ} {to : ℕ} where
 pub row-free : {table : List ℕ} {e slot : ℕ} → TruthSays table e slot true → TruthFree table e slot
 row-free s = s.means refl
 
--- ---- as bits
+-- ---- the predicate of a context, as bits
 
 no_bits : (j : ℕ) → has 0 j ≡ true → ⊥
 no_bits j e = let z : false ≡ true = sym (has-past 0 0 j (omega arith) (omega arith)) ∙ e in refused z
 
--- the bit k says of the slot behind `slot` by k
-abbrev FreeBit : (table rows : List ℕ) (from to slot k : ℕ) → Bool → Type 0
-FreeBit table rows from to slot k b = b ≡ true → RowsFree table rows from to (slot + k)
-
-module _ {table rows : List ℕ} {from to : ℕ} where
-  onward : (slot k j : ℕ) → RowsFree table rows from to (slot + k + j) → RowsFree table rows from to (slot + (k + j))
-  onward slot k j = let z : slot + k + j ≡ slot + (k + j) = omega arith in subst (RowsFree table rows from to) z
-
-  back : (slot k j : ℕ) → RowsFree table rows from to (slot + (k + j)) → RowsFree table rows from to (slot + k + j)
-  back slot k j = let z : slot + (k + j) ≡ slot + k + j = omega arith in subst (RowsFree table rows from to) z
-
-  module _ {slot count : ℕ} where
-    pub bits_none : BitsSay table rows from to slot count count 0
-    bits_none = record { within = omega arith; low = omega (arith, under-power (count - count)); means = λ j e. absurd (no_bits j e) }
-
-    pub bits_small : {k r : ℕ} → BitsSay table rows from to slot count k r → count ≤ 8 → r < 256
-    bits_small {k} b h = let p : 2 ^ (count - k) ≤ 2 ^ 8 = pow_mono {i = count - k} {j = 8} (omega arith) in omega (arith, b.low)
-
-    pub bits-more : {k r x : ℕ} {t : Bool} → 0 < k → BitsSay table rows from to slot count k r → RowsSay table rows from to (slot + (k - 1)) t → x ≡ bool_byte t
-        → BitsSay table rows from to slot count (k - 1) (2 * r + x)
-    bits-more {k} {r} {t = t} h b s u =
-        let rest : Bits (FreeBit table rows from to slot) k (count - k) r = record { small = b.low; each = λ j l e. onward slot k j (b.means j e) } in
-        let y = more-bits {R = FreeBit table rows from to slot} t {i = k - 1} {j = k} {m = count - (k - 1)} (omega arith) (omega (arith, b.within)) s.means u rest in
-        record { within = omega (arith, b.within); low = y.small; means = λ j e. back slot (k - 1) j (y.each j (member-below (count - (k - 1)) _ j y.small e) e) }
-
-    pub bits-done : {k r : ℕ} → BitsSay table rows from to slot count k r → k ≤ 0 → BitsSay table rows from to slot count 0 r
-    bits-done {k} {r} b h = let e : k ≡ 0 = omega arith in subst (λ (n : ℕ). BitsSay table rows from to slot count n r) e b
-
--- ---- the predicate of a context
-
-pub left_out : {table rows firsts : List ℕ} {context slot count r : ℕ} → BitsSay table rows (get_or firsts context 0) (get_or firsts (context + 1) 0) slot count 0 r
-    → LeftOut table rows firsts context slot count r
-left_out {table} {rows} {firsts} {context} {slot} {count} {r} b = record {
-  low = λ k e. let n : count - 0 ≡ count = omega arith in member-below count r k (subst (λ (m : ℕ). r < 2 ^ m) n b.low) e;
-  means = λ k e. let p : slot + 0 + k ≡ slot + k = omega arith in subst (RowsFree table rows (get_or firsts context 0) (get_or firsts (context + 1) 0)) p (b.means k e);
+pub left_out : {table rows firsts : List ℕ} {context slot count r : ℕ} {R : ℕ → Bool → Type 0} → MaskOf R count r
+    → ((k : ℕ) (b : Bool) → R k b → RowsSay table rows (get_or firsts context 0) (get_or firsts (context + 1) 0) (slot + k) b) → LeftOut table rows firsts context slot count r
+left_out {count = count} {r = r} w h = record {
+  low = λ k e. member-below count r k w.small e;
+  means = λ k e. (h k (has r k) (w.each k (member-below count r k w.small e))).means e;
 }
 
 pub left-none : {table rows firsts : List ℕ} {context slot count : ℕ} → LeftOut table rows firsts context slot count 0
@@ -126,9 +92,6 @@ module _ {table rows firsts groups : List ℕ} {operations : ℕ} (a : ReadAsked
           let t = below-entry a.dossier.operations j low in
           stands_at a.reading.tests (concrete-operation a.dossier j t.0 t.1) (omega arith)
       go (suc (suc w)) e u = let y : ⊥ = omega arith in absurd y
-
-  pub operations-few : operations ≤ 16
-  operations-few = omega (arith, a.many, a.reading.operations)
 
 pub context-rows-stand : {table rows firsts : List ℕ} {n : ℕ} → ContextStands table rows firsts n → RowsStand table rows (get_or firsts n 0) (get_or firsts (n + 1) 0)
 context-rows-stand c = record { scope = c.context.scope; slots = c.slots; conjuncts = c.at.conjuncts; low = c.at.low; stand = c.at.stand }

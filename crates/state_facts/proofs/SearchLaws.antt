@@ -1,8 +1,8 @@
 -- Searches among the numbers of bindings: what the tests ask and answer where two bindings stand in the slots, and the steps of a search. Assumes nothing.
 use mathlib.Core.Path.{◌≡◌, refl, sym, subst, ◌∙◌}
-use mathlib.Core.Bool.{Bool, true, false}
-use mathlib.Core.List.{List, [], ◌∷◌}
-use Prim.Native.Nat.{ℕ, suc, ◌<◌, ◌≤◌}
+use mathlib.Core.Bool.{Bool}
+use mathlib.Core.List.{List, []}
+use Prim.Native.Nat.{ℕ, ◌<◌}
 use native.Mathlib.Omega.{arith}
 use Rattle.std.specs.Prelude.{Option, count_by}
 use Rattle.std.specs.List.{filter, range_with_len}
@@ -12,14 +12,11 @@ use Rattle.form.specs.Tree.{Dossier}
 use Rattle.static_rules.specs.Carriers.{Variable}
 use Rattle.static_rules.specs.Limits.{binding_count}
 use Rattle.static_rules.specs.Scope.{unprimed}
-use Rattle.meaning.specs.Meaning.{Binding}
-use Rattle.meaning.specs.Bindings.{bindings, Over}
+use Rattle.meaning.specs.Bindings.{bindings}
 use Rattle.meaning.specs.Operations.{abstract_bindings, concrete_bindings, is_state}
-use Rattle.carriers.proofs.Bindings.{bindings-count}
 use Rattle.slot_carriers.specs.CellGroups.{Holding}
 use Rattle.table_places.specs.ResolvedTable.{slotted}
 use Rattle.evaluation.specs.EvaluationByNumber.{Values}
-use Rattle.evaluation.specs.SlotValues.{Slotted}
 use Rattle.states.specs.StateTests.{Placed}
 use Rattle.states.specs.Promises.{ContextAsked, ContextAnswers, AbstractIn, ConcreteIn, AbstractInitialAsked, AbstractInitialAnswers, RelatedAsked, RelatedAnswers}
 use Rattle.states.proofs.StateLaws.{abstract-context, asked-at, answer_at}
@@ -30,6 +27,8 @@ use Rattle.part_places.specs.Places.{PartAsked, PartSet}
 use Rattle.part_places.proofs.ReadingGroups.{reading-groups}
 use Rattle.state_facts.specs.Placings.{StatesSized, PairBound}
 use Rattle.step_searches.specs.StepPromises.{ReadAsked}
+use Rattle.step_searches.proofs.ConcreteStates.{slotted-there}
+use Rattle.step_searches.proofs.PartSizes.{abstract-count, concrete-count}
 use Rattle.state_facts.specs.Reads.{abstract_count, concrete_count, abstract_initial_at, abstract_state_at, concrete_state_at, related_at}
 use Rattle.state_facts.specs.Reads.{Next, Counted, StatesRead, SearchAsked, TestIs, PairIs}
 use Rattle.step_searches.specs.StepPromises.{First, ConcreteStates, ConcreteAsked, StateAnswers}
@@ -38,16 +37,9 @@ use Rattle.state_facts.proofs.ShownLaws.{opening-states}
 
 -- ---- a binding in its slots
 
-pub slotted-at : (vs : List Variable) (b : Binding) (s : ℕ) (σ : Values) → Over vs b → Holding σ s b → Slotted (slotted s vs) b σ
-unfolding Over Holding Slotted slotted
-slotted-at [] [] s σ o h = tt
-slotted-at [] (x ∷ b) s σ o h = absurd o
-slotted-at (v ∷ vs) [] s σ o h = absurd o
-slotted-at (v ∷ vs) (x ∷ b) s σ o h = (sym o.0, h.0, slotted-at vs b (suc s) σ o.2 h.1)
-
 pub placed_at : (vs : List Variable) (k s : ℕ) (σ : Values) → k < binding_count vs → Holding σ s (get_or (bindings vs) k []) → length σ ≡ 64
     → Placed vs (slotted s vs) (get_or (bindings vs) k []) σ
-placed_at vs k s σ l h e = record { over = over-at vs k l; slotted = slotted-at vs (get_or (bindings vs) k []) s σ (over-at vs k l) h; long = e }
+placed_at vs k s σ l h e = record { over = over-at vs k l; slotted = slotted-there s vs (get_or (bindings vs) k []) σ (over-at vs k l) h; long = e }
 
 module _ {table rows firsts cells : List ℕ} {p : Part} {a c : ℕ} {σ : Values} (B : PairBound cells p a c σ) (e : length σ ≡ 64) where
   module _ (d : Dossier) (R : StatesRead table rows firsts cells p d) where
@@ -93,19 +85,19 @@ module _ {table rows firsts cells : List ℕ} {p : Part} {a c : ℕ} {σ : Value
     pub related-is : a < p.meeting.bindings → c < p.concretes.bindings → RelatedAnswers table rows firsts σ r → PairIs table rows firsts cells p related_at a c r
     related-is l m w = record { means = λ d R. w.means d (abstract_at d a) (concrete_at d c) R.tests (abstract_in d R l) (concrete_in d R m) }
 
--- what a test says of one dossier
+-- of one dossier: what a test says, and how many bindings there are
 module _ {table rows firsts cells : List ℕ} {p : Part} {d : Dossier} (R : StatesRead table rows firsts cells p d) where
-  pub passes : (f : Dossier → ℕ → Bool) (k : ℕ) → TestIs table rows firsts cells p f k true → f d k ≡ true
-  passes f k t = sym (t.means d R)
+  pub says : (f : Dossier → ℕ → Bool) (k : ℕ) {r : Bool} → TestIs table rows firsts cells p f k r → f d k ≡ r
+  says f k t = sym (t.means d R)
 
-  pub fails : (f : Dossier → ℕ → Bool) (k : ℕ) → TestIs table rows firsts cells p f k false → f d k ≡ false
-  fails f k t = sym (t.means d R)
+  pub pair-says : (a c : ℕ) {r : Bool} → PairIs table rows firsts cells p related_at a c r → related_at d a c ≡ r
+  pair-says a c t = sym (t.means d R)
 
-  pub pair-passes : (a c : ℕ) → PairIs table rows firsts cells p related_at a c true → related_at d a c ≡ true
-  pair-passes a c t = sym (t.means d R)
+  pub abstracts : p.meeting.bindings ≡ abstract_count d
+  abstracts = R.are.abstracts.count ∙ sym (abstract-count d)
 
-  pub pair-fails : (a c : ℕ) → PairIs table rows firsts cells p related_at a c false → related_at d a c ≡ false
-  pair-fails a c t = sym (t.means d R)
+  pub concretes : p.concretes.bindings ≡ concrete_count d
+  concretes = R.are.concretes.count ∙ sym (concrete-count d)
 
 -- the cells of the concrete state are those of both states
 module _ {table rows firsts cells : List ℕ} {p : Part} where
@@ -121,9 +113,6 @@ module _ {table rows firsts cells : List ℕ} {p : Part} where
   pub concretes-asked : SearchAsked table rows firsts cells p → ConcreteAsked table rows firsts cells p
   concretes-asked A = record { dossier = A.dossier; states = concretes-read A.read }
 
-  pub concrete-test : {c : ℕ} {r : Bool} → StateAnswers table rows firsts cells p c r → TestIs table rows firsts cells p concrete_state_at c r
-  concrete-test a = record { means = λ d R. a.is d (concretes-read R) }
-
   pub concrete-is : {d : Dossier} → StatesRead table rows firsts cells p d → {c : ℕ} {r : Bool} → StateAnswers table rows firsts cells p c r → r ≡ concrete_state_at d c
   concrete-is {d} R a = a.is d (concretes-read R)
 
@@ -131,12 +120,6 @@ module _ {table rows firsts cells : List ℕ} {p : Part} where
 module _ {table rows firsts cells : List ℕ} {p : Part} (A : SearchAsked table rows firsts cells p) where
   pub both-sized : StatesSized cells p
   both-sized = record { abstractly = unprimed A.dossier A.dossier.abstract; concretely = unprimed A.dossier A.dossier.concrete; are = A.read.are }
-
-  pub abstract-few : p.meeting.bindings ≤ 4096
-  abstract-few = omega (arith, A.read.are.abstracts.count, A.read.are.abstracts.few)
-
-  pub concrete-few : p.concretes.bindings ≤ 4096
-  concrete-few = omega (arith, A.read.are.concretes.count, A.read.are.concretes.few)
 
 -- ---- of a dossier whose reading the arrays are
 
@@ -154,23 +137,20 @@ module _ {table rows firsts groups : List ℕ} {operations : ℕ} where
 
     pub abstract-next : {f : Dossier → ℕ → Bool} {from : ℕ} {r : Option ℕ} → ((d : Dossier) → StatesRead table rows firsts cells p d → First (f d) from p.meeting.bindings r)
         → Next table rows firsts groups operations f abstract_count from r
-    unfolding abstract_bindings
     abstract-next {f} {from} {r} w = record {
-      first = λ d R m. subst (λ (n : ℕ). First (f d) from n r) ((states-read P d R).are.abstracts.count ∙ sym (bindings-count (unprimed d d.abstract))) (w d (states-read P d R));
+      first = λ d R m. subst (λ (n : ℕ). First (f d) from n r) (abstracts (states-read P d R)) (w d (states-read P d R));
     }
 
     pub concrete-next : {f : Dossier → ℕ → Bool} {from : ℕ} {r : Option ℕ} → ((d : Dossier) → StatesRead table rows firsts cells p d → First (f d) from p.concretes.bindings r)
         → Next table rows firsts groups operations f concrete_count from r
-    unfolding concrete_bindings
     concrete-next {f} {from} {r} w = record {
-      first = λ d R m. subst (λ (n : ℕ). First (f d) from n r) ((states-read P d R).are.concretes.count ∙ sym (bindings-count (unprimed d d.concrete))) (w d (states-read P d R));
+      first = λ d R m. subst (λ (n : ℕ). First (f d) from n r) (concretes (states-read P d R)) (w d (states-read P d R));
     }
 
     -- those that a filter keeps are counted
     pub concrete-counted : {r : ℕ} → ((d : Dossier) → StatesRead table rows firsts cells p d → r ≡ length (filter (concrete_state_at d) (range_with_len 0 p.concretes.bindings)))
         → Counted table rows firsts groups operations concrete_state_at concrete_count r
-    unfolding concrete_bindings
     concrete-counted {r} w = record {
-      count = λ d R m. subst (λ (n : ℕ). r ≡ count_by (concrete_state_at d) (range_with_len 0 n)) ((states-read P d R).are.concretes.count ∙ sym (bindings-count (unprimed d d.concrete)))
+      count = λ d R m. subst (λ (n : ℕ). r ≡ count_by (concrete_state_at d) (range_with_len 0 n)) (concretes (states-read P d R))
           (w d (states-read P d R) ∙ length-filter (concrete_state_at d) (range_with_len 0 p.concretes.bindings));
     }

@@ -1,10 +1,10 @@
 -- The groups of the part that is shown are those of every dossier whose groups stand in the arrays. Assumes nothing.
 use mathlib.Core.Path.{◌≡◌, sym, ap, subst}
-use mathlib.Core.Logic.{◌⊎◌, inl, inr}
 use mathlib.Core.List.{List, []}
 use mathlib.Core.Option.{some}
 use Prim.Native.Nat.{ℕ, ◌+◌, ◌*◌, ◌<◌, ◌≤◌}
 use native.Mathlib.Omega.{arith}
+use native.Mathlib.Decide.{dec_lt}
 use lib.ListN.{length, get_elem?}
 use lib.IntN.{ℤ}
 use Rattle.form.specs.Tree.{Operation, Dossier}
@@ -20,13 +20,10 @@ use Rattle.part_places.specs.Places.{GroupsOf, AllAsked, PartAsked, PartSet}
 use Rattle.pages.specs.declared.Bindings.{Bindings}
 use Rattle.state_facts.specs.Placings.{StatesAre, StatesSized, StatesBound, ParametersAre, ParametersSized, ParametersBound}
 use Rattle.state_facts.specs.Shown.{PartOf, Shown}
-use Rattle.state_facts.proofs.PlacedGroups.{split_at, states-kept}
+use Rattle.state_facts.proofs.PlacedGroups.{states-kept}
 
 pub part-asked : {table groups : List ℕ} {operations operation k : ℕ} → AllAsked table groups operations → PartOf operations operation k → PartAsked table groups k
 part-asked a o = record { dossier = a.dossier; groups_are = a.groups_are; inside = omega (arith, o.inside, a.many) }
-
-pub few-operations : {table groups : List ℕ} {operations : ℕ} → AllAsked table groups operations → operations ≤ 16
-few-operations a = omega (arith, a.groups_are.operations, a.many)
 
 -- ---- the groups of a part
 
@@ -96,11 +93,11 @@ module _ {table groups : List ℕ} {k : ℕ} {cells : List ℕ} {p : Part} (P : 
 
   module _ {operations operation : ℕ} (A : AllAsked table groups operations) (o : PartOf operations operation k) where
     states-for : (d : Dossier) → GroupsOf table groups d → operations ≡ length d.operations → StatesAre cells p (unprimed d d.abstract) (unprimed d d.concrete)
-    states-for d G m = go (split_at operation operations)
-      where
-        go : (operation < operations) ⊎ (operations ≤ operation) → StatesAre cells p (unprimed d d.abstract) (unprimed d d.concrete)
-        go (inl h) = let t = below-entry d.operations operation (subst (λ (n : ℕ). operation < n) m h) in operation-states d G operation t.0 t.1 (o.own h)
-        go (inr h) = opening-states d G (o.first h)
+    states-for d G m =
+        elim (dec_lt operation operations) [
+          | yes h ↦ (let t = below-entry d.operations operation (subst (λ (n : ℕ). operation < n) m h) in operation-states d G operation t.0 t.1 (o.own h))
+          | no h ↦ opening-states d G (o.first (omega arith))
+        ]
 
     pub shown-states-sized : StatesSized cells p
     shown-states-sized = record {
@@ -110,13 +107,13 @@ module _ {table groups : List ℕ} {k : ℕ} {cells : List ℕ} {p : Part} (P : 
     }
 
     pub shown-parameters-sized : ParametersSized cells p
-    shown-parameters-sized = go (split_at operation operations)
-      where
-        go : (operation < operations) ⊎ (operations ≤ operation) → ParametersSized cells p
-        go (inl h) =
-            let t = below-entry A.dossier.operations operation (subst (λ (n : ℕ). operation < n) A.many h) in
-            record { inward = inputs A.dossier t.0; outward = outputs A.dossier t.0; are = operation-parameters A.dossier A.groups_are operation t.0 t.1 (o.own h) }
-        go (inr h) = record { inward = []; outward = []; are = empty-parameters A.dossier A.groups_are (o.first h) }
+    shown-parameters-sized =
+        elim (dec_lt operation operations) [
+          | yes h ↦
+              (let t = below-entry A.dossier.operations operation (subst (λ (n : ℕ). operation < n) A.many h) in
+              record { inward = inputs A.dossier t.0; outward = outputs A.dossier t.0; are = operation-parameters A.dossier A.groups_are operation t.0 t.1 (o.own h) })
+          | no h ↦ record { inward = []; outward = []; are = empty-parameters A.dossier A.groups_are (o.first (omega arith)) }
+        ]
 
     pub shown : {x : Bindings} {ρ σ τ : List ℤ} → StatesBound cells p x ρ σ → ParametersBound cells p x σ τ
         → Shown table groups operations operation x τ record { va = p.meeting.variables; vc = p.concretes.variables; vi = p.inputs.variables; vo = p.outputs.variables }

@@ -1,5 +1,5 @@
 -- The slots that a predicate leaves out: the truth of each of its conjuncts is the same with any value there. Nothing here need be believed.
-use Rattle.std.specs.Prelude.{◌≡◌, Bool, true, List, ℕ, ◌+◌, ◌-◌, ◌*◌, ◌^◌, ◌<◌, ◌≤◌, get_or}
+use Rattle.std.specs.Prelude.{◌≡◌, Bool, true, List, ℕ, ◌+◌, ◌*◌, ◌<◌, ◌≤◌, get_or}
 use Rattle.sets.specs.Sets.{has}
 use Rattle.form.specs.Tree.{Pred}
 use Rattle.static_rules.specs.Scope.{Scope, Context}
@@ -22,12 +22,6 @@ pub record RowsFree (table rows : List ℕ) (from to slot : ℕ) : Type 0 where
 -- a yes says so
 pub record RowsSay (table rows : List ℕ) (from to slot : ℕ) (r : Bool) : Type 0 where
   pub means : r ≡ true → RowsFree table rows from to slot
-
--- the bits of the slots slot + k up to slot + count
-pub record BitsSay (table rows : List ℕ) (from to slot count k r : ℕ) : Type 0 where
-  pub within : k ≤ count
-  pub low : r < 2 ^ (count - k)
-  pub means : (j : ℕ) → has r j ≡ true → RowsFree table rows from to (slot + k + j)
 
 -- each bit that is set: the predicate of the context has no conjunct that depends on the slot
 pub record LeftOut (table rows firsts : List ℕ) (context slot count r : ℕ) : Type 0 where

@@ -2,11 +2,11 @@
 // and the last six say which variables of each group it mentions.
 ghost use Rattle.std.specs.Prelude.{ℕ, ◌≡◌, ◌+◌, ◌*◌, ◌<◌, ◌≤◌};
 ghost use Rattle.states.specs.Promises.{ContextAsked};
-ghost use Rattle.state_facts.specs.Reads.{ReadAsked, SearchAsked};
 ghost use Rattle.state_facts.specs.FalseConjuncts.{CountedFirst, guard_test, FalsePair, FalseConjunct};
 ghost use Rattle.state_facts.specs.FalseConjuncts.{GuardAsked, FalseStep, FalseGuard};
 
-use crate::{INITIALISATION, Pair, StateSearch, correctness_of, state_search};
+use crate::placing::{bind_pair, put_parameters, put_states};
+use crate::{Pair, PairSearch, correctness_of, pair_search, state_search};
 use form::node::NUMBERS;
 use pages::Bindings;
 use search_groups::Dossier;
@@ -14,6 +14,7 @@ use search_groups::columns::{ABSTRACT_PRIMED, CONCRETE_PRIMED, END, OUTPUTS};
 use search_groups::conjuncts::ROW;
 use search_groups::contexts::{CONCRETE_SIDE, OPERATIONS, RETRIEVE, SIDES};
 use slot_carriers::SLOTS;
+use step_searches::{ReadDossier, StateSearch};
 use truths::truth;
 
 // The first conjunct of the n-th context's predicate that counts and fails.
@@ -40,24 +41,22 @@ fn first_false<F: Fn(usize) -> bool>(
 }
 
 // That of retrieve, for two states.
-fn retrieve_false(s: &StateSearch<'_>, x: Pair) -> Option<usize>
-    requires { SearchAsked s.now.dossier.table.now s.now.dossier.rows.now s.now.dossier.firsts.now s.now.cells s.now.part }
+fn retrieve_false(s: &PairSearch<'_>, x: Pair) -> Option<usize>
     ensures { FalsePair s.now.dossier.table.now s.now.dossier.rows.now s.now.dossier.firsts.now s.now.cells s.now.part x.a x.c result }
 {
-    if s.part.meeting.bindings <= x.a || s.part.concretes.bindings <= x.c {
+    if s.search.part.meeting.bindings <= x.a || s.search.part.concretes.bindings <= x.c {
         return None;
     }
     let mut slots = [0i64; SLOTS];
-    s.bind_pair(x, &mut slots);
-    first_false(&s.dossier, RETRIEVE, |_| true, &mut slots)
+    bind_pair(&s.search, x, &mut slots);
+    first_false(&s.search.dossier, RETRIEVE, |_| true, &mut slots)
 }
 
 // Where the first conjunct of retrieve stands that fails for two states.
-pub fn false_conjunct(d: &Dossier<'_>, x: Pair) -> Option<usize>
-    requires { ReadAsked d.now.table.now d.now.rows.now d.now.firsts.now d.now.groups.now d.now.operations }
+pub fn false_conjunct(d: &ReadDossier<'_>, x: Pair) -> Option<usize>
     ensures { FalseConjunct d.now.table.now d.now.rows.now d.now.firsts.now d.now.groups.now d.now.operations x.a x.c result }
 {
-    let s = state_search(d, INITIALISATION);
+    let s = pair_search(d);
     retrieve_false(&s, x)
 }
 
@@ -87,8 +86,8 @@ fn step_false(s: &StateSearch<'_>, j: usize, c: usize, i: usize) -> Option<usize
         k: c,
         b: 0,
     };
-    s.put_states(x, &mut slots);
-    s.put_parameters(x, &mut slots);
+    put_states(s, x, &mut slots);
+    put_parameters(s, x, &mut slots);
     first_false(
         &s.dossier,
         OPERATIONS + SIDES * j + CONCRETE_SIDE,
@@ -101,13 +100,12 @@ fn step_false(s: &StateSearch<'_>, j: usize, c: usize, i: usize) -> Option<usize
 
 // Where the first conjunct of the j-th operation's concrete predicate stands that mentions no output and no variable of a state after, and fails for the c-th concrete state and the
 // i-th inputs: with it the operation has no step from there.
-pub fn false_guard(d: &Dossier<'_>, j: usize, c: usize, i: usize) -> Option<usize>
-    requires { ReadAsked d.now.table.now d.now.rows.now d.now.firsts.now d.now.groups.now d.now.operations }
+pub fn false_guard(d: &ReadDossier<'_>, j: usize, c: usize, i: usize) -> Option<usize>
     ensures { FalseGuard d.now.table.now d.now.rows.now d.now.firsts.now d.now.groups.now d.now.operations j c i result }
 {
-    if d.operations <= j {
+    if d.arrays.operations <= j {
         return None;
     }
-    let s = state_search(d, correctness_of(j));
+    let s = state_search(&d.arrays, correctness_of(j));
     step_false(&s, j, c, i)
 }

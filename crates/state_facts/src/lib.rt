@@ -1,12 +1,12 @@
 // Facts about a dossier by numbers of bindings, for a program that explains counterexamples: the values of the bindings that are shown. Numbers are those of the fixed order;
 // one that is out of range is answered, never refused.
-// Form 5: what is asked of the cells of both states is no invariant of `StateSearch`, which is also made of an operation's part and for `show`, where less is known; numbers of bindings
-// change with each call.
+// Form 5: that a number is one of the abstract bindings is asked of four functions, by one short clause each: as a type it is a struct with the search as a ghost field, made by a literal
+// in two closures and opened in each of the four.
 #![tactic(auto)]
 
 pub mod conjuncts;
 pub mod omissions;
-pub mod placing;
+mod placing;
 pub mod searches;
 
 ghost use Rattle.std.specs.Prelude.{◌≡◌, ◌+◌, ◌*◌, ◌<◌, ◌≤◌};
@@ -15,9 +15,11 @@ ghost use Rattle.state_facts.specs.Shown.{PartOf, Shown};
 
 use pages::{Bindings, Counts};
 use part_places::{OBLIGATIONS, part_cells};
-use plans::Part;
+use placing::{put_parameters, put_states};
 use search_groups::Dossier;
 use slot_carriers::{CELLS, SLOTS};
+use std::marker::Model;
+use step_searches::{ReadDossier, StateSearch};
 
 // An abstract state and a concrete one, by the numbers of their bindings.
 #[derive(Clone, Copy)]
@@ -26,15 +28,7 @@ pub struct Pair {
     pub c: usize,
 }
 
-// What a search among states goes over: the dossier, the cells of a part's variables, and the part's sizes.
-#[derive(Drop)]
-struct StateSearch<'a> {
-    dossier: Dossier<'a>,
-    cells: [u32; CELLS],
-    part: Part,
-}
-
-// That of the k-th part.
+// The search among the states of the k-th part.
 fn state_search<'a>(d: &Dossier<'a>, k: usize) -> StateSearch<'a>
     requires { PartAsked d.now.table.now d.now.groups.now k }
     ensures dossier { result.dossier ≡ d.now }
@@ -51,6 +45,33 @@ fn state_search<'a>(d: &Dossier<'a>, k: usize) -> StateSearch<'a>
 
 // The part of the check that has the groups of both states.
 const INITIALISATION: usize = 0;
+
+// A search among both states, of some dossier: the part has their groups.
+#[derive(Drop)]
+struct PairSearch<'a> {
+    search: StateSearch<'a>,
+}
+
+impl<'a> Model for PairSearch<'a> {
+    ghost use Rattle.step_searches.specs.declared.StateSearch.{StateSearch};
+    ghost use Rattle.state_facts.specs.Reads.{SearchAsked};
+
+    ghost Value = { StateSearch };
+
+    ghost view = { λ s. s.search };
+
+    ghost invariant = { λ s. SearchAsked s.search.dossier.table.now s.search.dossier.rows.now s.search.dossier.firsts.now s.search.cells s.search.part };
+}
+
+// That of a dossier that was read.
+fn pair_search<'a>(d: &ReadDossier<'a>) -> PairSearch<'a>
+    ensures dossier { result.dossier ≡ d.now }
+    ensures cells { PartSet d.now.table.now d.now.groups.now 0 result.cells result.part }
+{
+    PairSearch {
+        search: state_search(&d.arrays, INITIALISATION),
+    }
+}
 
 // The part of the check that is the correctness of operation j: behind initialisation each operation has two, its applicability and its correctness.
 // Form 1: parts are numbers in `part_places`, whose functions go through them by a `for`; which obligation a part is, `held_checks` says, and no one asks it here.
@@ -79,8 +100,8 @@ pub fn show(d: &Dossier<'_>, operation: usize, x: Bindings, slots: &mut [i64; SL
 {
     let s = state_search(d, part_of(d.operations, operation));
     let p = s.part;
-    s.put_states(x, slots);
-    s.put_parameters(x, slots);
+    put_states(&s, x, slots);
+    put_parameters(&s, x, slots);
     Counts {
         va: p.meeting.variables,
         vc: p.concretes.variables,

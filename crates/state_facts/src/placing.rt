@@ -1,14 +1,15 @@
 // Bindings into their slots: the groups of a part's variables, whose cells are made. A part of initialisation or of correctness has the sizes of the abstract variables as `meeting`.
-ghost use Rattle.std.specs.Prelude.{◌≡◌, pos};
+ghost use Rattle.std.specs.Prelude.{pos};
 ghost use Rattle.slot_carriers.specs.CellGroups.{Others};
 ghost use Rattle.state_facts.specs.Placings.{GroupAsked, GroupBound, StatesSized, StatesBound, PairBound, OthersFrom, ParametersSized, ParametersBound};
 
-use crate::{Pair, StateSearch};
+use crate::Pair;
 use pages::Bindings;
 use plans::GroupSize;
 use points::slots;
 use slot_carriers::groups::bind;
 use slot_carriers::{CELLS, SLOTS};
+use step_searches::StateSearch;
 
 // The variables of a group, from a slot on, get the values of its k-th binding; where there is none, they keep those that they have.
 fn bind_below(
@@ -25,39 +26,37 @@ fn bind_below(
     if size.bindings <= k {
         return;
     }
-    bind(cells, base, size.variables, size.bindings, k, slots)
+    bind(cells, base, size, k, slots)
 }
 
-impl StateSearch<'_> {
-    // An abstract and a concrete state.
-    pub fn bind_pair(&self, x: Pair, slots: &mut [i64; SLOTS])
-        requires { StatesSized self.now.cells self.now.part }
-        ensures values { PairBound self.now.cells self.now.part x.a x.c slots.new }
-        ensures others { OthersFrom 16 slots.old slots.new }
-    {
-        let p = self.part;
-        bind_below(&self.cells, slots::ABSTRACT, p.meeting, x.a, slots);
-        bind_below(&self.cells, slots::CONCRETE, p.concretes, x.c, slots);
-    }
+// An abstract and a concrete state.
+pub fn bind_pair(s: &StateSearch<'_>, x: Pair, slots: &mut [i64; SLOTS])
+    requires { StatesSized s.now.cells s.now.part }
+    ensures values { PairBound s.now.cells s.now.part x.a x.c slots.new }
+    ensures others { OthersFrom 16 slots.old slots.new }
+{
+    let p = s.part;
+    bind_below(&s.cells, slots::ABSTRACT, p.meeting, x.a, slots);
+    bind_below(&s.cells, slots::CONCRETE, p.concretes, x.c, slots);
+}
 
-    // Both states, and the states after them.
-    pub fn put_states(&self, x: Bindings, slots: &mut [i64; SLOTS])
-        requires { StatesSized self.now.cells self.now.part }
-        ensures { StatesBound self.now.cells self.now.part x slots.old slots.new }
-    {
-        let p = self.part;
-        self.bind_pair(Pair { a: x.a, c: x.c }, slots);
-        bind_below(&self.cells, slots::CONCRETE_PRIMED, p.concretes, x.k, slots);
-        bind_below(&self.cells, slots::ABSTRACT_PRIMED, p.meeting, x.b, slots);
-    }
+// Both states, and the states after them.
+pub fn put_states(s: &StateSearch<'_>, x: Bindings, slots: &mut [i64; SLOTS])
+    requires { StatesSized s.now.cells s.now.part }
+    ensures { StatesBound s.now.cells s.now.part x slots.old slots.new }
+{
+    let p = s.part;
+    bind_pair(s, Pair { a: x.a, c: x.c }, slots);
+    bind_below(&s.cells, slots::CONCRETE_PRIMED, p.concretes, x.k, slots);
+    bind_below(&s.cells, slots::ABSTRACT_PRIMED, p.meeting, x.b, slots);
+}
 
-    // The inputs and the outputs of an operation.
-    pub fn put_parameters(&self, x: Bindings, slots: &mut [i64; SLOTS])
-        requires { ParametersSized self.now.cells self.now.part }
-        ensures { ParametersBound self.now.cells self.now.part x slots.old slots.new }
-    {
-        let p = self.part;
-        bind_below(&self.cells, slots::INPUTS, p.inputs, x.i, slots);
-        bind_below(&self.cells, slots::OUTPUTS, p.outputs, x.o, slots);
-    }
+// The inputs and the outputs of an operation.
+pub fn put_parameters(s: &StateSearch<'_>, x: Bindings, slots: &mut [i64; SLOTS])
+    requires { ParametersSized s.now.cells s.now.part }
+    ensures { ParametersBound s.now.cells s.now.part x slots.old slots.new }
+{
+    let p = s.part;
+    bind_below(&s.cells, slots::INPUTS, p.inputs, x.i, slots);
+    bind_below(&s.cells, slots::OUTPUTS, p.outputs, x.o, slots);
 }

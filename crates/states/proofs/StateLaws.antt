@@ -107,7 +107,7 @@ slotted-append [] Y (x ∷ b) c σ h k = absurd h
 slotted-append (w ∷ W) Y [] c σ h k = absurd h
 slotted-append (w ∷ W) Y (x ∷ b) c σ h k = (h.0, h.1, slotted-append W Y b c σ h.2 k)
 
-both-in : (d : Dossier) (a c : Binding) (σ : Values) → AbstractIn d a σ → ConcreteIn d c σ
+pub both-in : (d : Dossier) (a c : Binding) (σ : Values) → AbstractIn d a σ → ConcreteIn d c σ
     → Placed (unprimed d d.abstract ++ unprimed d d.concrete) (abstract_slots d ++ concrete_slots d) (a ++ c) σ
 both-in d a c σ h k = record {
   over = over-append (unprimed d d.abstract) (unprimed d d.concrete) a c h.over k.over;

@@ -56,6 +56,8 @@ pub fn abstract_initial(d: &Dossier<'_>, slots: &mut [i64; SLOTS]) -> bool
 }
 
 // The same of the concrete variables and cinit.
+// No function of these crates calls it or the two steps below: searches test states and steps level by level, by a plan. They stand for who has a whole binding or step in the slots and asks
+// whether it is one: what they promise is each time the word of meaning/specs itself (`concrete_initial`, `abstract_step`, `concrete_step`), for every dossier that the table is of.
 // Form 2: what it asks and promises is of its own bindings, and the code that the two could share is two calls.
 pub fn concrete_initial(d: &Dossier<'_>, slots: &mut [i64; SLOTS]) -> bool
     requires { ConcreteInitialAsked d.now.table.now d.now.rows.now d.now.firsts.now slots.old }
@@ -95,7 +97,7 @@ pub fn abstract_step(
 }
 
 // The same of its concrete side.
-// Form 2: as `concrete_initial`.
+// Form 2: as `concrete_initial`, of three calls.
 pub fn concrete_step(
     d: &Dossier<'_>,
     k: usize,

@@ -1,62 +1,28 @@
 -- From the reading of some dossier to the searches of its operation, and from what these find back to every dossier whose reading it is. Assumes nothing.
-use mathlib.Core.Path.{◌≡◌, refl, sym, ap, subst, ◌∙◌}
-use mathlib.Core.Bool.{Bool, true≢false}
+use mathlib.Core.Path.{◌≡◌, refl, subst, ◌∙◌}
+use mathlib.Core.Bool.{Bool}
 use mathlib.Core.List.{List}
 use mathlib.Core.Option.{some}
 use Prim.Native.Nat.{ℕ, ◌*◌, ◌/◌, ◌%◌, ◌<◌, ◌≤◌}
 use native.Mathlib.Omega.{arith}
-use native.Mathlib.Decide.{dec_lt}
-use Rattle.std.specs.Prelude.{Option, Some, None, IfSome, unwrap_or}
+use Rattle.std.specs.Prelude.{Option, Some, None, Ok, Err, IfSome, unwrap_or}
 use lib.ListN.{length, get_elem?}
 use Rattle.form.specs.Tree.{Operation, Dossier}
-use Rattle.static_rules.specs.Scope.{unprimed, inputs, outputs}
-use Rattle.static_rules.specs.Limits.{binding_count}
-use Rattle.meaning.specs.Operations.{abstract_bindings, concrete_bindings, output_bindings}
 use Rattle.meaning.proofs.Places.{entry-below, below-entry}
-use Rattle.carriers.proofs.Bindings.{bindings-count}
 use Rattle.points.specs.Searches.{Sought}
 use Rattle.plans.specs.declared.Part.{Part}
 use Rattle.state_facts.specs.ReadingsReadings.{ReadingOf}
 use Rattle.state_facts.specs.PartTestsPartsByNumber.{abstract_at, output_at, abstractly, initial, initial_match}
 use Rattle.step_searches.specs.StepPromises.{StepSearches, StepsAsked, PrepareAsked, Prepared, First, AbstractStepFound}
-use Rattle.step_searches.specs.StepPromises.{OpeningSearches, OpeningAsked, OpenAsked, Opened, InitialStateFound, InitialMatchFound}
+use Rattle.step_searches.specs.StepPromises.{OpeningAsked, OpenAsked, Opened, InitialStateFound, InitialMatchFound}
+use Rattle.step_searches.proofs.PartSizes.{na-is, nc-is, ni-is, nq-is, opening-nm-is, opening-nc-is}
 use Rattle.step_searches.proofs.FoundSteps as steps
 use Rattle.step_searches.proofs.FoundOpenings as openings
 use Rattle.state_facts.specs.Reads.{ReadAsked, abstract_count, concrete_count}
-use Rattle.step_facts.specs.FactPromises.{ForOperation, input_count, output_count}
-use Rattle.step_facts.specs.FactPromises.{SpansAre, InRange, AbstractStepIs, found_step, IsWithin, BeginIs}
-use Rattle.step_facts.specs.declared.NextStep.{NextStep}
-use Rattle.step_facts.specs.declared.NextStep.TheVariants.{Beyond}
+use Rattle.step_facts.specs.FactPromises.{ForOperation, output_count}
+use Rattle.step_facts.specs.FactPromises.{SpansAre, InRange, AbstractStepIs, BeginIs}
+use Rattle.step_facts.specs.declared.StepFault.TheVariants.{Beyond}
 use Rattle.step_facts.specs.declared.runs.Beginning.TheVariants.{Both, Concrete, Nowhere}
-
-abstract-count : (d : Dossier) → abstract_count d ≡ binding_count (unprimed d d.abstract)
-unfolding abstract_bindings
-abstract-count d = bindings-count (unprimed d d.abstract)
-
-concrete-count : (d : Dossier) → concrete_count d ≡ binding_count (unprimed d d.concrete)
-unfolding concrete_bindings
-concrete-count d = bindings-count (unprimed d d.concrete)
-
-output-count : (d : Dossier) (op : Operation) → output_count d op ≡ binding_count (outputs d op)
-unfolding output_bindings
-output-count d op = bindings-count (outputs d op)
-
--- the sizes of the part are those of the dossier's bindings
-module _ {table plan cells : List ℕ} {p : Part} {d : Dossier} {op : Operation} (x : StepSearches table plan cells p d op) where
-  pub na-is : p.abstracts.bindings ≡ abstract_count d
-  na-is = ap (λ (z : Part). z.abstracts.bindings) x.part_is ∙ sym (abstract-count d)
-
-  pub nc-is : p.concretes.bindings ≡ concrete_count d
-  nc-is = ap (λ (z : Part). z.concretes.bindings) x.part_is ∙ sym (concrete-count d)
-
-  pub ni-is : p.inputs.bindings ≡ input_count d op
-  ni-is = ap (λ (z : Part). z.inputs.bindings) x.part_is ∙ sym (bindings-count (inputs d op))
-
-  pub nq-is : p.outputs.bindings ≡ output_count d op
-  nq-is = ap (λ (z : Part). z.outputs.bindings) x.part_is ∙ sym (output-count d op)
-
-  pub nr-is : p.readying.bindings ≡ p.outputs.bindings * p.abstracts.bindings
-  nr-is = subst (λ (z : Part). z.readying.bindings ≡ z.outputs.bindings * z.abstracts.bindings) (sym x.part_is) refl
 
 pub sizes-of : {table plan cells : List ℕ} {p : Part} → StepsAsked table plan cells p
     → ((0 < p.abstracts.bindings) × (p.abstracts.bindings ≤ 4096)) × ((0 < p.concretes.bindings) × (p.concretes.bindings ≤ 4096)) × ((0 < p.inputs.bindings) × (p.inputs.bindings ≤ 64)) × ((0 < p.outputs.bindings) × (p.outputs.bindings ≤ 64))
@@ -78,14 +44,6 @@ module _ {table rows firsts groups : List ℕ} {operations j : ℕ} where
 
 -- ---- the first number that passes
 
--- no other number that passes is before it
-pub sought-low : {f : ℕ → Bool} {n c k : ℕ} → Sought f 0 n c → Sought f 0 n k → k < n → c ≤ k
-sought-low {f} {n} {c} {k} s t l =
-    elim (dec_lt k c) [ yes h ↦ absurd (true≢false (sym (t.found l) ∙ s.past k (omega arith) h)) | no h ↦ omega arith ]
-
-pub sought-same-place : {f : ℕ → Bool} {n c k : ℕ} → Sought f 0 n c → Sought f 0 n k → c < n → k < n → c ≡ k
-sought-same-place s t l h = omega (arith, sought-low s t h, sought-low t s l)
-
 -- a search that went to a number, or to the end where it found none
 pub first-of : {f : ℕ → Bool} {from end : ℕ} (r : Option ℕ) → IfSome r (λ (k : ℕ). k < end) → Sought f from end (unwrap_or r end) → First f from end r
 first-of None l s = s.past
@@ -100,37 +58,36 @@ step_by d op a i n x = abstractly d op a i (output_at d op (x / n)) (abstract_at
 module _ {table rows firsts groups : List ℕ} {operations j a i from : ℕ} where
   -- nothing is in range
   no_step : ForOperation table rows firsts groups operations j (λ (d : Dossier) (op : Operation). InRange d op a i from → ⊥)
-      → AbstractStepIs table rows firsts groups operations j a i from Beyond
+      → AbstractStepIs table rows firsts groups operations j a i from (Err Beyond)
   no_step n = record { first = λ d op R m e h. absurd (n d op R m e h); beyond = λ d op R m e h. refl; outside = λ h. refl }
 
-  pub step-unlisted : operations ≤ j → AbstractStepIs table rows firsts groups operations j a i from Beyond
+  pub step-unlisted : operations ≤ j → AbstractStepIs table rows firsts groups operations j a i from (Err Beyond)
   step-unlisted h = no_step (λ d op R m e r. unlisted d h m e)
 
   module _ {plan cells : List ℕ} {p : Part} (w : Prepared table rows firsts groups j plan cells p) where
-    pub state-beyond : p.abstracts.bindings ≤ a → AbstractStepIs table rows firsts groups operations j a i from Beyond
+    pub state-beyond : p.abstracts.bindings ≤ a → AbstractStepIs table rows firsts groups operations j a i from (Err Beyond)
     state-beyond h = no_step (λ d op R m e r. none r.state (na-is (w.searches d op R e)))
       where
         none : {n : ℕ} → a < n → p.abstracts.bindings ≡ n → ⊥
         none l q = omega arith
 
-    pub input-beyond : p.inputs.bindings ≤ i → AbstractStepIs table rows firsts groups operations j a i from Beyond
+    pub input-beyond : p.inputs.bindings ≤ i → AbstractStepIs table rows firsts groups operations j a i from (Err Beyond)
     input-beyond h = no_step (λ d op R m e r. none r.input (ni-is (w.searches d op R e)))
       where
         none : {n : ℕ} → i < n → p.inputs.bindings ≡ n → ⊥
         none l q = omega arith
 
-    pub start-beyond : p.readying.bindings < from → AbstractStepIs table rows firsts groups operations j a i from Beyond
-    start-beyond h = no_step (λ d op R m e r. let x = w.searches d op R e in none r.start (nr-is x ∙ (λ t. nq-is x t * na-is x t)))
+    pub start-beyond : p.readying.bindings < from → AbstractStepIs table rows firsts groups operations j a i from (Err Beyond)
+    start-beyond h = no_step (λ d op R m e r. let x = w.searches d op R e in none r.start (steps.steps-end x ∙ (λ t. nq-is x t * na-is x t)))
       where
         none : {n : ℕ} → from ≤ n → p.readying.bindings ≡ n → ⊥
         none l q = omega arith
 
-    pub step-found : (r : Option ℕ) (x : NextStep) → r ≡ found_step x → IsWithin x → j < operations → a < p.abstracts.bindings → i < p.inputs.bindings → from ≤ p.readying.bindings → IfSome r (λ (k : ℕ). k < p.outputs.bindings * p.abstracts.bindings)
-        → AbstractStepFound table plan cells p a i from (unwrap_or r (p.outputs.bindings * p.abstracts.bindings)) → AbstractStepIs table rows firsts groups operations j a i from x
-    step-found r x is within h la li lf low s =
+    pub step-found : (r : Option ℕ) → j < operations → a < p.abstracts.bindings → i < p.inputs.bindings → from ≤ p.readying.bindings → IfSome r (λ (k : ℕ). k < p.outputs.bindings * p.abstracts.bindings)
+        → AbstractStepFound table plan cells p a i from (unwrap_or r (p.outputs.bindings * p.abstracts.bindings)) → AbstractStepIs table rows firsts groups operations j a i from (Ok r)
+    step-found r h la li lf low s =
         record {
-          first = λ d op R m e q.
-              (subst (First (step_by d op a i (abstract_count d)) from (output_count d op * abstract_count d)) is (found d op (w.searches d op R e)), within);
+          first = λ d op R m e q. (found d op (w.searches d op R e), tt);
           beyond = λ d op R m e n. absurd (n (ranged d op (w.searches d op R e)));
           outside = λ l. absurd (over l);
         }
@@ -143,7 +100,7 @@ module _ {table rows firsts groups : List ℕ} {operations j a i from : ℕ} whe
             record {
               state = subst (λ (n : ℕ). a < n) (na-is x) la;
               input = subst (λ (n : ℕ). i < n) (ni-is x) li;
-              start = subst (λ (n : ℕ). from ≤ n) (nr-is x ∙ (λ t. nq-is x t * na-is x t)) lf;
+              start = subst (λ (n : ℕ). from ≤ n) (steps.steps-end x ∙ (λ t. nq-is x t * na-is x t)) lf;
             }
 
         found : (d : Dossier) (op : Operation) → StepSearches table plan cells p d op
@@ -173,14 +130,6 @@ module _ {table rows firsts groups : List ℕ} {operations j : ℕ} where
 
       z : ((0 < p.abstracts.bindings) × (p.abstracts.bindings ≤ 4096)) × ((0 < p.concretes.bindings) × (p.concretes.bindings ≤ 4096)) × ((0 < p.inputs.bindings) × (p.inputs.bindings ≤ 64)) × ((0 < p.outputs.bindings) × (p.outputs.bindings ≤ 64))
       z = sizes-of (steps-asked q h w)
-
--- the sizes of the initialisation part
-module _ {table plan cells : List ℕ} {p : Part} {d : Dossier} (x : OpeningSearches table plan cells p d) where
-  pub opening-nm-is : p.meeting.bindings ≡ abstract_count d
-  opening-nm-is = ap (λ (z : Part). z.meeting.bindings) x.part_is ∙ sym (abstract-count d)
-
-  pub opening-nc-is : p.concretes.bindings ≡ concrete_count d
-  opening-nc-is = ap (λ (z : Part). z.concretes.bindings) x.part_is ∙ sym (concrete-count d)
 
 module _ {table rows firsts groups : List ℕ} {operations : ℕ} where
   pub open-asked : ReadAsked table rows firsts groups operations → OpenAsked table rows firsts groups

@@ -10,7 +10,8 @@ use Rattle.plans.specs.declared.Part.{Part}
 use Rattle.step_searches.specs.StepPromises.{StepSearches, StepsAsked, Prepared, ConcreteStepFound, MatchFound, Below}
 use Rattle.step_facts.specs.declared.runs.BothStep.{BothStep}
 use Rattle.step_facts.specs.FactPromises.{AbleIs, StepLow, StepFound, StepWithin, StepIs}
-use Rattle.step_facts.proofs.AskedFacts.{na-is, nc-is, ni-is, nq-is, sizes-of}
+use Rattle.step_searches.proofs.PartSizes.{na-is, nc-is, ni-is, nq-is}
+use Rattle.step_facts.proofs.AskedFacts.{sizes-of}
 
 -- outputs and after state as one number
 module _ {table plan cells : List ℕ} {p : Part} {r : ℕ} (q : StepsAsked table plan cells p) (h : r < p.outputs.bindings * p.concretes.bindings) where

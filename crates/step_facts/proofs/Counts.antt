@@ -15,7 +15,8 @@ use Rattle.step_searches.specs.StepPromises.{StepsAsked, ForSteps, Prepared}
 use Rattle.step_facts.specs.declared.totals.Counted.{Counted}
 use Rattle.step_facts.specs.declared.totals.Counted.TheVariants.{States, Pairs, Promises}
 use Rattle.step_facts.specs.FactPromises.{if_so, weight, tally, Summed, one, state_test, related_test, ready_test, adds, AddedIs, TotalIs, AbleIs}
-use Rattle.step_facts.proofs.AskedFacts.{na-is, nc-is, ni-is, sizes-of, unlisted}
+use Rattle.step_searches.proofs.PartSizes.{na-is, nc-is, ni-is}
+use Rattle.step_facts.proofs.AskedFacts.{sizes-of, unlisted}
 use Rattle.sets.proofs.MaskBits.{byte_low}
 
 -- ---- sums

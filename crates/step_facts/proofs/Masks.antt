@@ -1,5 +1,5 @@
 -- The inputs at which a side can step, as bits; those of all concrete states. Assumes nothing.
-use mathlib.Core.Path.{◌≡◌, refl, sym, ap, ap₂, subst, ◌∙◌}
+use mathlib.Core.Path.{◌≡◌, refl, sym, ap, ap₂, subst, subst₂, ◌∙◌}
 use mathlib.Core.Bool.{Bool, true, false}
 use mathlib.Core.Logic.{◌⊎◌, ⊎_elim}
 use mathlib.Core.List.{List, []}
@@ -24,10 +24,11 @@ use Rattle.sets.specs.Sets.{has}
 use Rattle.sets.proofs.MaskBits.{Bits, no-bits, more-bits, bits-fit}
 use Rattle.points.specs.Searches.{Sought}
 use Rattle.plans.specs.declared.Part.{Part}
-use Rattle.state_facts.specs.PartTestsPartsByNumber.{nth, abstract_at, concrete_at, output_at, abstractly, concretely, ready_at, stepping}
+use Rattle.state_facts.specs.PartTestsPartsByNumber.{nth, abstractly, concretely, ready_at, stepping}
 use Rattle.step_searches.specs.StepPromises.{StepSearches, StepsAsked, ForSteps, AbstractStepFound, ConcreteStepFound}
 use Rattle.step_facts.specs.FactPromises.{able_at, states_of, AbleIs, BitsAre, MasksAre}
-use Rattle.step_facts.proofs.AskedFacts.{na-is, nc-is, nq-is, sizes-of}
+use Rattle.step_searches.proofs.PartSizes.{na-is, nc-is, nq-is}
+use Rattle.step_facts.proofs.AskedFacts.{sizes-of}
 
 -- ---- a search among pairs of bindings comes to an end exactly if no pair passes
 
@@ -59,38 +60,17 @@ module _ (F : Binding → Binding → Bool) (os us : List Binding) (r : ℕ) whe
           let l : length os * length us ≤ r = ltb-false r (length os * length us) e in
           sym (none_any (λ (o : Binding). any (F o) us) os (λ o m. none_any (F o) us (λ u n. none l o m u n)))
 
+-- the same by the numbers of a part
+any-found : (F : Binding → Binding → Bool) (os us : List Binding) (r : ℕ) {m n : ℕ} → m ≡ length us → n ≡ length os → 0 < m
+    → Sought (λ (x : ℕ). F (nth os (x / m)) (nth us (x % m))) 0 (n * m) r → ltb r (n * m) ≡ any (λ (o : Binding). any (F o) us) os
+any-found F os us r e f =
+    subst₂ (λ (m n : ℕ). 0 < m → Sought (λ (x : ℕ). F (nth os (x / m)) (nth us (x % m))) 0 (n * m) r → ltb r (n * m) ≡ any (λ (o : Binding). any (F o) us) os) (sym e) (sym f)
+    (some_pair F os us r)
+
 -- ---- can a side step with these inputs?
 
-pub abstract-low : (p : Part) {side : Bool} {s : ℕ} → side ≡ true → s < states_of p side → s < p.abstracts.bindings
-abstract-low p {s = s} e h = subst (λ (b : Bool). s < states_of p b) e h
-
-pub concrete-low : (p : Part) {side : Bool} {s : ℕ} → side ≡ false → s < states_of p side → s < p.concretes.bindings
-concrete-low p {s = s} e h = subst (λ (b : Bool). s < states_of p b) e h
-
-module _ {table plan cells : List ℕ} {p : Part} (s i : ℕ) where
-  abstract-any : {d : Dossier} {op : Operation} → StepSearches table plan cells p d op → (r : ℕ) → 0 < p.abstracts.bindings
-      → Sought (λ (x : ℕ). abstractly d op s i (output_at d op (x / p.abstracts.bindings)) (abstract_at d (x % p.abstracts.bindings))) 0 (p.outputs.bindings * p.abstracts.bindings) r
-      → ltb r (p.outputs.bindings * p.abstracts.bindings) ≡ ready_at d op s i
-  unfolding ready_at
-  abstract-any {d} {op} x r =
-      subst (λ (m : ℕ). 0 < m → Sought (λ (x : ℕ). abstractly d op s i (output_at d op (x / m)) (abstract_at d (x % m))) 0 (p.outputs.bindings * m) r
-      → ltb r (p.outputs.bindings * m) ≡ any (λ (o : Binding). any (abstractly d op s i o) (abstract_bindings d)) (output_bindings d op)) (sym (na-is x))
-      (subst (λ (n : ℕ). 0 < length (abstract_bindings d)
-      → Sought (λ (x : ℕ). abstractly d op s i (output_at d op (x / length (abstract_bindings d))) (abstract_at d (x % length (abstract_bindings d)))) 0 (n * length (abstract_bindings d)) r
-      → ltb r (n * length (abstract_bindings d)) ≡ any (λ (o : Binding). any (abstractly d op s i o) (abstract_bindings d)) (output_bindings d op)) (sym (nq-is x))
-      (some_pair (abstractly d op s i) (output_bindings d op) (abstract_bindings d) r))
-
-  concrete-any : {d : Dossier} {op : Operation} → StepSearches table plan cells p d op → (r : ℕ) → 0 < p.concretes.bindings
-      → Sought (λ (x : ℕ). concretely d op s i (output_at d op (x / p.concretes.bindings)) (concrete_at d (x % p.concretes.bindings))) 0 (p.outputs.bindings * p.concretes.bindings) r
-      → ltb r (p.outputs.bindings * p.concretes.bindings) ≡ stepping d op s i
-  unfolding stepping
-  concrete-any {d} {op} x r =
-      subst (λ (m : ℕ). 0 < m → Sought (λ (x : ℕ). concretely d op s i (output_at d op (x / m)) (concrete_at d (x % m))) 0 (p.outputs.bindings * m) r
-      → ltb r (p.outputs.bindings * m) ≡ any (λ (o : Binding). any (concretely d op s i o) (concrete_bindings d)) (output_bindings d op)) (sym (nc-is x))
-      (subst (λ (n : ℕ). 0 < length (concrete_bindings d)
-      → Sought (λ (x : ℕ). concretely d op s i (output_at d op (x / length (concrete_bindings d))) (concrete_at d (x % length (concrete_bindings d)))) 0 (n * length (concrete_bindings d)) r
-      → ltb r (n * length (concrete_bindings d)) ≡ any (λ (o : Binding). any (concretely d op s i o) (concrete_bindings d)) (output_bindings d op)) (sym (nq-is x))
-      (some_pair (concretely d op s i) (output_bindings d op) (concrete_bindings d) r))
+pub low : (p : Part) {side b : Bool} {s : ℕ} → side ≡ b → s < states_of p side → s < states_of p b
+low p {s = s} e h = subst (λ (b : Bool). s < states_of p b) e h
 
 -- what is found is below the end
 some-below : (n : ℕ) (o : Option ℕ) → IfSome o (λ (k : ℕ). k < n) → ltb (unwrap_or o n) n ≡ is_some o
@@ -100,14 +80,16 @@ some-below n (Some k) l = lt-ltb k n l
 module _ {table plan cells : List ℕ} {p : Part} {s i : ℕ} {side : Bool} where
   pub abstract-able : (o : Option ℕ) {r : Bool} → r ≡ is_some o → side ≡ true → StepsAsked table plan cells p → IfSome o (λ (k : ℕ). k < p.outputs.bindings * p.abstracts.bindings)
       → AbstractStepFound table plan cells p s i 0 (unwrap_or o (p.outputs.bindings * p.abstracts.bindings)) → AbleIs table plan cells p side s i r
+  unfolding ready_at
   abstract-able o t e q l w = record {
-    is = λ d op x. t ∙ sym (some-below (p.outputs.bindings * p.abstracts.bindings) o l) ∙ abstract-any s i x (unwrap_or o (p.outputs.bindings * p.abstracts.bindings)) (sizes-of q).0.0 (w.sought d op x) ∙ ap (λ (b : Bool). able_at d op b s i) (sym e);
+    is = λ d op x. t ∙ sym (some-below (p.outputs.bindings * p.abstracts.bindings) o l) ∙ any-found (abstractly d op s i) (output_bindings d op) (abstract_bindings d) (unwrap_or o (p.outputs.bindings * p.abstracts.bindings)) (na-is x) (nq-is x) (sizes-of q).0.0 (w.sought d op x) ∙ ap (λ (b : Bool). able_at d op b s i) (sym e);
   }
 
   pub concrete-able : (o : Option ℕ) {r : Bool} → r ≡ is_some o → side ≡ false → StepsAsked table plan cells p → IfSome o (λ (k : ℕ). k < p.outputs.bindings * p.concretes.bindings)
       → ConcreteStepFound table plan cells p s i 0 (unwrap_or o (p.outputs.bindings * p.concretes.bindings)) → AbleIs table plan cells p side s i r
+  unfolding stepping
   concrete-able o t e q l w = record {
-    is = λ d op x. t ∙ sym (some-below (p.outputs.bindings * p.concretes.bindings) o l) ∙ concrete-any s i x (unwrap_or o (p.outputs.bindings * p.concretes.bindings)) (sizes-of q).1.0 (w.sought d op x) ∙ ap (λ (b : Bool). able_at d op b s i) (sym e);
+    is = λ d op x. t ∙ sym (some-below (p.outputs.bindings * p.concretes.bindings) o l) ∙ any-found (concretely d op s i) (output_bindings d op) (concrete_bindings d) (unwrap_or o (p.outputs.bindings * p.concretes.bindings)) (nc-is x) (nq-is x) (sizes-of q).1.0 (w.sought d op x) ∙ ap (λ (b : Bool). able_at d op b s i) (sym e);
   }
 
 -- ---- the bits of all inputs, the last one's first

@@ -8,32 +8,27 @@ use native.Mathlib.Nat.{eq-or-lt_of_le, mod-lt}
 use native.Mathlib.Omega.{arith}
 use Rattle.std.specs.Prelude.{Option, Some, None}
 use lib.ListN.{get_or}
-use lib.Dec.{eqb, ltb}
-use borrow.Author.Tests.{eq-eqb, ne_eqb, ltb-true, ltb-false}
+use lib.Dec.{eqb}
+use borrow.Author.Tests.{eq-eqb, ne_eqb}
 use Rattle.form.specs.Tree.{Operation, Dossier}
 use Rattle.sets.specs.Sets.{has}
 use Rattle.points.specs.Searches.{Sought}
+use Rattle.plans.proofs.Segments.{either}
 use Rattle.plans.specs.declared.Part.{Part}
 use Rattle.state_facts.specs.PartTestsPartsByNumber.{abstract_state, related_to, ready_at, stepping}
 use Rattle.step_searches.specs.StepPromises.{StepSearches, StepsAsked, ForSteps, Prepared, First, AbstractStateFound, RelatedStateFound}
 use Rattle.step_facts.specs.declared.differences.Place.{Place}
 use Rattle.step_facts.specs.FactPromises.{input_count, BitsAre, MasksAre, more, more_by, FirstMore, differs, differs_related, differs_at, FirstRelated, FirstPlace, PlaceHere, NowhereFrom, PlaceFrom, PlaceAmong, Within, PlaceIs}
-use Rattle.step_facts.proofs.AskedFacts.{na-is, nc-is, ni-is, unlisted}
+use Rattle.step_searches.proofs.PartSizes.{na-is, nc-is, ni-is}
+use Rattle.step_facts.proofs.AskedFacts.{unlisted}
 use Rattle.lexical.proofs.BooleanTests.{and-right-false, and-left-false}
 
 -- ---- from one number that passes to the next
 
-split : (k c : ℕ) → (k < c) ⊎ (c ≤ k)
-split k c = go (ltb k c) refl
-  where
-    go : (t : Bool) → ltb k c ≡ t → (k < c) ⊎ (c ≤ k)
-    go true e = inl (ltb-true k c e)
-    go false e = inr (ltb-false k c e)
-
 -- what holds before c, at c and wherever the test fails holds before the next number that passes
 pub advance : (G : ℕ → Type 0) (f : ℕ → Bool) (c next n : ℕ) → ((k : ℕ) → k < c → G k) → G c → ((k : ℕ) → f k ≡ false → G k) → Sought f (c + 1) n next
     → (k : ℕ) → k < next → G k
-advance G f c next n before at skip s k l = ⊎_elim (λ h. before k h) (λ h. ⊎_elim (λ e. subst G e at) (λ g. skip k (s.past k (omega arith) l)) (eq-or-lt_of_le h)) (split k c)
+advance G f c next n before at skip s k l = ⊎_elim (λ h. before k h) (λ h. ⊎_elim (λ e. subst G e at) (λ g. skip k (s.past k (omega arith) l)) (eq-or-lt_of_le h)) (either k c)
 
 -- ---- the first bit that one mask has and the other has not
 

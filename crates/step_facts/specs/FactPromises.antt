@@ -1,6 +1,6 @@
 -- Facts about the states and steps of a dossier's two machines, by numbers of bindings, for every dossier whose reading the arrays are: what is asked and promised. Nothing here need be
 -- believed.
-use Rattle.std.specs.Prelude.{◌≡◌, Bool, true, false, ◌&&◌, not, Option, Some, None, MatchOption, IfSome, List, ℕ, zero, suc, ◌+◌, ◌*◌, ◌/◌, ◌%◌, ◌<◌, ◌≤◌, length, get_or}
+use Rattle.std.specs.Prelude.{◌≡◌, Bool, true, false, ◌&&◌, not, Option, None, Result, Ok, Err, MatchOption, IfSome, List, ℕ, zero, suc, ◌+◌, ◌*◌, ◌/◌, ◌%◌, ◌<◌, ◌≤◌, length, get_or}
 use Rattle.std.proofs.Math.Option.{some}
 use Rattle.std.proofs.Math.ListN.{get_elem?}
 use Rattle.form.specs.Tree.{Operation, Dossier}
@@ -15,8 +15,8 @@ use Rattle.state_facts.specs.PartTestsPartsByNumber.{abstract_at, concrete_at, o
 use Rattle.step_searches.specs.StepPromises.{ForSteps, First}
 use Rattle.state_facts.specs.Reads.{abstract_count, concrete_count}
 use Rattle.step_facts.specs.declared.Widths.{Widths}
-use Rattle.step_facts.specs.declared.NextStep.{NextStep}
-use Rattle.step_facts.specs.declared.NextStep.TheVariants.{Step, NoStep, Beyond}
+use Rattle.step_facts.specs.declared.StepFault.{StepFault}
+use Rattle.step_facts.specs.declared.StepFault.TheVariants.{Beyond}
 use Rattle.step_facts.specs.declared.runs.Beginning.{Beginning}
 use Rattle.step_facts.specs.declared.runs.Beginning.TheVariants.{Both, Concrete, Nowhere}
 use Rattle.step_facts.specs.declared.differences.Place.{Place}
@@ -60,22 +60,20 @@ pub record InRange (d : Dossier) (op : Operation) (a i from : ℕ) : Type 0 wher
   pub start : from ≤ output_count d op * abstract_count d
 
 -- the number of a step, if there is one
-abbrev pub found_step : NextStep → Option ℕ
-found_step (Step x) = Some x
-found_step NoStep = None
-found_step Beyond = None
+abbrev pub found_step : Result (Option ℕ) StepFault → Option ℕ
+found_step (Ok r) = r
+found_step (Err e) = None
 
-abbrev pub IsWithin : NextStep → Type 0
-IsWithin (Step x) = Unit {0}
-IsWithin NoStep = Unit {0}
-IsWithin Beyond = ⊥
+abbrev pub IsWithin : Result (Option ℕ) StepFault → Type 0
+IsWithin (Ok r) = Unit {0}
+IsWithin (Err e) = ⊥
 
 -- abstract_step(d, j, a, i, from)
-pub record AbstractStepIs (table rows firsts groups : List ℕ) (operations j a i from : ℕ) (r : NextStep) : Type 0 where
+pub record AbstractStepIs (table rows firsts groups : List ℕ) (operations j a i from : ℕ) (r : Result (Option ℕ) StepFault) : Type 0 where
   pub first : ForOperation table rows firsts groups operations j
       (λ (d : Dossier) (op : Operation). InRange d op a i from → First (abstract_step_at d op a i) from (output_count d op * abstract_count d) (found_step r) × IsWithin r)
-  pub beyond : ForOperation table rows firsts groups operations j (λ (d : Dossier) (op : Operation). (InRange d op a i from → ⊥) → r ≡ Beyond)
-  pub outside : operations ≤ j → r ≡ Beyond
+  pub beyond : ForOperation table rows firsts groups operations j (λ (d : Dossier) (op : Operation). (InRange d op a i from → ⊥) → r ≡ Err Beyond)
+  pub outside : operations ≤ j → r ≡ Err Beyond
 
 -- ---- the inputs at which a side can step, as bits
 

@@ -1,5 +1,5 @@
 // The inputs with which a side can step, as bits.
-ghost use Rattle.std.specs.Prelude.{◌≡◌, ◌<◌, get_or};
+ghost use Rattle.std.specs.Prelude.{◌<◌};
 ghost use Rattle.memo.specs.MemoPromises.{Memo};
 ghost use Rattle.step_facts.specs.Sides.{is_abstract};
 ghost use Rattle.step_facts.specs.FactPromises.{AbleIs, states_of, BitsAre, MasksAre};
@@ -8,10 +8,12 @@ use lexical::bounds::STATE_BINDINGS;
 use step_searches::{StepSearch, next_abstract_step, next_concrete_step};
 
 // The most bindings that a state has.
-pub const STATES: usize = STATE_BINDINGS as usize;
+pub const MOST_STATES: usize = STATE_BINDINGS as usize;
 
 // One of the two machines.
 // Form 1: two cases of their own, no Option or Result.
+// Form 7: `able` and `first_difference` match it, once each, and four functions hand it on: with a closure in its place each of the four would ask that the
+// closure can be called, and promise over what it answers in place of `is_abstract side`.
 #[derive(Clone, Copy)]
 pub enum Side {
     Abstract,
@@ -39,6 +41,7 @@ pub fn able(
 }
 
 // The inputs with which it can, as bits; the last one's first, so that each one doubles what is there.
+// Form 2: not by `points::masks::mask_of`, as `nest_steps::ready`: the test writes the memory, and `remembers` says what that is then.
 pub fn bits(s: &StepSearch<'_>, side: Side, x: usize, memo: &mut [u64; memo::NUMBERS]) -> u64
     requires s_bound { x < states_of s.now.part (is_abstract side) }
     requires memo { Memo s.now.table.now memo.old }
@@ -54,7 +57,11 @@ pub fn bits(s: &StepSearch<'_>, side: Side, x: usize, memo: &mut [u64; memo::NUM
 }
 
 // Those of all concrete states.
-pub fn fill_masks(s: &StepSearch<'_>, masks: &mut [u64; STATES], memo: &mut [u64; memo::NUMBERS])
+pub fn fill_masks(
+    s: &StepSearch<'_>,
+    masks: &mut [u64; MOST_STATES],
+    memo: &mut [u64; memo::NUMBERS],
+)
     requires memo { Memo s.now.table.now memo.old }
     ensures fills { MasksAre s.now.table.now s.now.plan.now s.now.cells.now s.now.part s.now.part.concretes.bindings masks.new }
     ensures remembers { Memo s.now.table.now memo.new }
@@ -64,12 +71,4 @@ pub fn fill_masks(s: &StepSearch<'_>, masks: &mut [u64; STATES], memo: &mut [u64
         let m = bits(s, Side::Concrete, c, memo);
         masks[c] = m;
     }
-}
-
-// Those of the concrete state c.
-pub fn mask_at(masks: &[u64; STATES], c: usize) -> u64
-    requires { c < 4096 }
-    ensures { result ≡ get_or masks.now c 0 }
-{
-    masks[c]
 }

@@ -2,13 +2,11 @@
 ghost use Rattle.std.specs.Prelude.{true, false, ◌<◌, ◌≤◌};
 ghost use Rattle.memo.specs.MemoPromises.{Memo};
 ghost use Rattle.step_searches.specs.StepPromises.{First};
-ghost use Rattle.state_facts.specs.Reads.{ReadAsked};
 ghost use Rattle.step_facts.specs.Sides.{is_abstract};
 ghost use Rattle.step_facts.specs.FactPromises.{MasksAre, more, FirstMore, PlaceFrom, PlaceAmong, PlaceIs};
 
-use crate::bits::{STATES, Side, bits, fill_masks, mask_at};
-use search_groups::Dossier;
-use step_searches::{StepSearch, next_abstract_state, next_related_state, prepare};
+use crate::bits::{MOST_STATES, Side, bits, fill_masks};
+use step_searches::{ReadDossier, StepSearch, next_abstract_state, next_related_state, prepare};
 
 // An abstract state, a concrete one and inputs.
 #[derive(Clone, Copy)]
@@ -46,7 +44,7 @@ fn place_from(
     s: &StepSearch<'_>,
     side: Side,
     a: usize,
-    masks: &[u64; STATES],
+    masks: &[u64; MOST_STATES],
     memo: &mut [u64; memo::NUMBERS],
 ) -> Option<Place>
     requires a_lt_na { a < s.now.part.abstracts.bindings }
@@ -59,7 +57,7 @@ fn place_from(
     let m = bits(s, Side::Abstract, a, memo);
     let mut next = next_related_state(s, a, 0, memo);
     while let Some(c) = next {
-        if let Some(i) = first_difference(side, m, mask_at(masks, c), p.inputs.bindings) {
+        if let Some(i) = first_difference(side, m, masks[c], p.inputs.bindings) {
             return Some(Place { a, c, i });
         }
         next = next_related_state(s, a, c + 1, memo);
@@ -71,7 +69,7 @@ fn place_from(
 fn place_among(
     s: &StepSearch<'_>,
     side: Side,
-    masks: &[u64; STATES],
+    masks: &[u64; MOST_STATES],
     memo: &mut [u64; memo::NUMBERS],
 ) -> Option<Place>
     requires memo { Memo s.now.table.now memo.old }
@@ -91,34 +89,31 @@ fn place_among(
 }
 
 // The same for operation j of the arrays.
-fn differing(d: &Dossier<'_>, j: usize, side: Side) -> Option<Place>
-    requires { ReadAsked d.now.table.now d.now.rows.now d.now.firsts.now d.now.groups.now d.now.operations }
+fn differing(d: &ReadDossier<'_>, j: usize, side: Side) -> Option<Place>
     ensures { PlaceIs d.now.table.now d.now.rows.now d.now.firsts.now d.now.groups.now d.now.operations j (is_abstract side) result }
 {
-    if d.operations <= j {
+    if d.arrays.operations <= j {
         return None;
     }
-    let ready = prepare(d, j);
+    let ready = prepare(&d.arrays, j);
     let s = StepSearch {
-        search: ready.search(d.table),
+        search: ready.search(d.arrays.table),
     };
     let mut memo = [0u64; memo::NUMBERS];
-    let mut masks = [0u64; STATES];
+    let mut masks = [0u64; MOST_STATES];
     fill_masks(&s, &mut masks, &mut memo);
     place_among(&s, side, &masks, &mut memo)
 }
 
 // The first abstract state, concrete state related to it, and inputs with which the abstract side of operation j can step and the concrete side cannot; none where there is none.
-pub fn narrowed(d: &Dossier<'_>, j: usize) -> Option<Place>
-    requires { ReadAsked d.now.table.now d.now.rows.now d.now.firsts.now d.now.groups.now d.now.operations }
+pub fn narrowed(d: &ReadDossier<'_>, j: usize) -> Option<Place>
     ensures { PlaceIs d.now.table.now d.now.rows.now d.now.firsts.now d.now.groups.now d.now.operations j true result }
 {
     differing(d, j, Side::Abstract)
 }
 
 // Those with which the concrete side can step and the abstract side cannot.
-pub fn widened(d: &Dossier<'_>, j: usize) -> Option<Place>
-    requires { ReadAsked d.now.table.now d.now.rows.now d.now.firsts.now d.now.groups.now d.now.operations }
+pub fn widened(d: &ReadDossier<'_>, j: usize) -> Option<Place>
     ensures { PlaceIs d.now.table.now d.now.rows.now d.now.firsts.now d.now.groups.now d.now.operations j false result }
 {
     differing(d, j, Side::Concrete)

@@ -1,20 +1,19 @@
 // Facts about an operation of a dossier, by numbers of bindings, from the searches for single states and steps: for a program that explains counterexamples. A number that is out of range is
 // answered, never refused.
 // `let _ = &s.search;` stands where a function names no field of its search: with it the proof learns the invariant of `StepSearch`.
+// Form 2: four functions make operation j's part ready and search it: the part owns the arrays that the search refers to, so that a function that makes both cannot hand the search out;
+// and a function that is handed a closure over the search would ask that it can be called with every search of the operation, in place of three statements.
 // Form 3: in the loops by `while` the next place is what a search answers, which is lent the memory that the body is lent too: an iterator would have to own it.
 // Form 5: the memory goes with the search through each function: in one struct, lent to be written, each would have to promise that the search is the same
 // behind it, and would hand the two on one by one, since the functions of `step_searches` take them so.
 #![tactic(auto)]
 
-ghost use Rattle.std.specs.Prelude.{◌≡◌};
-ghost use Rattle.state_facts.specs.Reads.{ReadAsked};
-ghost use Rattle.step_facts.specs.FactPromises.{SpansAre, AbstractStepIs, found_step};
+ghost use Rattle.step_facts.specs.FactPromises.{SpansAre, AbstractStepIs};
 
 pub use differences::{Place, narrowed, widened};
 pub use runs::{Beginning, BothStep, begin, step};
-use search_groups::Dossier;
 pub use state_facts::Pair;
-use step_searches::{StepSearch, next_abstract_step, prepare, prepare_opening};
+use step_searches::{ReadDossier, StepSearch, next_abstract_step, prepare, prepare_opening};
 pub use totals::{abstract_states, promises, related_pairs};
 
 mod bits;
@@ -32,12 +31,11 @@ pub struct Widths {
 }
 
 // How many bindings the groups of operation j have; where it is none of the dossier's, those of both states, and one for inputs and outputs.
-pub fn spans(d: &Dossier<'_>, j: usize) -> Widths
-    requires { ReadAsked d.now.table.now d.now.rows.now d.now.firsts.now d.now.groups.now d.now.operations }
+pub fn spans(d: &ReadDossier<'_>, j: usize) -> Widths
     ensures { SpansAre d.now.table.now d.now.rows.now d.now.firsts.now d.now.groups.now d.now.operations j result }
 {
-    if j < d.operations {
-        let ready = prepare(d, j);
+    if j < d.arrays.operations {
+        let ready = prepare(&d.arrays, j);
         return Widths {
             na: ready.part.abstracts.bindings,
             nc: ready.part.concretes.bindings,
@@ -45,7 +43,7 @@ pub fn spans(d: &Dossier<'_>, j: usize) -> Widths
             nq: ready.part.outputs.bindings,
         };
     }
-    let ready = prepare_opening(d);
+    let ready = prepare_opening(&d.arrays);
     Widths {
         na: ready.part.meeting.bindings,
         nc: ready.part.concretes.bindings,
@@ -54,50 +52,37 @@ pub fn spans(d: &Dossier<'_>, j: usize) -> Widths
     }
 }
 
-// The next step of an operation by its number, if there is one; `Beyond` where the numbers that it is asked for with are none of the operation's.
-// Form 1: three answers; an `Option` of an `Option` would not say which `None` is which.
+// Why no step is looked for: the numbers that it is asked for with are none of the operation's.
+// Form 1: the error of a `Result`.
 #[derive(Clone, Copy)]
-pub enum NextStep {
-    Step(usize),
-    NoStep,
+pub enum StepFault {
     Beyond,
 }
 
-impl NextStep {
-    // The number of the step, if there is one.
-    pub fn number(self) -> Option<usize>
-        ensures { result ≡ found_step self }
-    {
-        match self {
-            NextStep::Step(x) => Some(x),
-            NextStep::NoStep => None,
-            NextStep::Beyond => None,
-        }
-    }
-}
-
-// The next step of the abstract operation j from the state a with the inputs i: outputs and after state as one number, o * na + a'.
-pub fn abstract_step(d: &Dossier<'_>, j: usize, a: usize, i: usize, from: usize) -> NextStep
-    requires { ReadAsked d.now.table.now d.now.rows.now d.now.firsts.now d.now.groups.now d.now.operations }
+// The next step of the abstract operation j from the state a with the inputs i: outputs and after state as one number, o * na + a', if there is one.
+pub fn abstract_step(
+    d: &ReadDossier<'_>,
+    j: usize,
+    a: usize,
+    i: usize,
+    from: usize,
+) -> Result<Option<usize>, StepFault>
     ensures { AbstractStepIs d.now.table.now d.now.rows.now d.now.firsts.now d.now.groups.now d.now.operations j a i from result }
 {
-    if d.operations <= j {
-        return NextStep::Beyond;
+    if d.arrays.operations <= j {
+        return Err(StepFault::Beyond);
     }
-    let ready = prepare(d, j);
+    let ready = prepare(&d.arrays, j);
     if ready.part.abstracts.bindings <= a
         || ready.part.inputs.bindings <= i
         || ready.part.readying.bindings < from
     {
-        return NextStep::Beyond;
+        return Err(StepFault::Beyond);
     }
     let s = StepSearch {
-        search: ready.search(d.table),
+        search: ready.search(d.arrays.table),
     };
     let mut memo = [0u64; memo::NUMBERS];
     let step = next_abstract_step(&s, a, i, from, &mut memo);
-    match step {
-        Some(x) => NextStep::Step(x),
-        None => NextStep::NoStep,
-    }
+    Ok(step)
 }

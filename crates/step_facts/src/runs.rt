@@ -1,19 +1,17 @@
 // A beginning of both machines, and a step of both.
 ghost use Rattle.std.specs.Prelude.{◌<◌};
 ghost use Rattle.memo.specs.MemoPromises.{Memo};
-ghost use Rattle.state_facts.specs.Reads.{ReadAsked};
 ghost use Rattle.step_facts.specs.FactPromises.{BeginIs, PairLow, StepFound, StepIs};
 
 use crate::bits::{Side, able};
-use search_groups::Dossier;
 use state_facts::Pair;
 use step_searches::{
-    StepSearch, Stepped, next_concrete_step, next_initial_match, next_initial_state,
+    ReadDossier, StepSearch, Stepped, next_concrete_step, next_initial_match, next_initial_state,
     next_matching_state, prepare, prepare_opening,
 };
 
 // Where a run begins: in a concrete initial state and an abstract one that is related to it; in a concrete initial state that no abstract one is related to; nowhere.
-// Form 1: three cases with other contents each.
+// Form 1: three cases with other contents each: as an Option of a concrete state with an Option of an abstract one, the one caller would put together the pair that `Both` has.
 #[derive(Clone, Copy)]
 pub enum Beginning {
     Both(Pair),
@@ -31,12 +29,11 @@ pub struct BothStep {
 }
 
 // The first concrete initial state, and the first abstract initial state that is related to it.
-pub fn begin(d: &Dossier<'_>) -> Beginning
-    requires { ReadAsked d.now.table.now d.now.rows.now d.now.firsts.now d.now.groups.now d.now.operations }
+pub fn begin(d: &ReadDossier<'_>) -> Beginning
     ensures { BeginIs d.now.table.now d.now.rows.now d.now.firsts.now d.now.groups.now d.now.operations result }
 {
-    let ready = prepare_opening(d);
-    let s = ready.search(d.table);
+    let ready = prepare_opening(&d.arrays);
+    let s = ready.search(d.arrays.table);
     let mut memo = [0u64; memo::NUMBERS];
     let Some(c) = next_initial_state(&s, 0, &mut memo) else {
         return Beginning::Nowhere;
@@ -89,19 +86,18 @@ fn step_from(s: &StepSearch<'_>, x: Pair, memo: &mut [u64; memo::NUMBERS]) -> Op
 }
 
 // A step of both sides of operation j from two states.
-pub fn step(d: &Dossier<'_>, j: usize, x: Pair) -> Option<BothStep>
-    requires { ReadAsked d.now.table.now d.now.rows.now d.now.firsts.now d.now.groups.now d.now.operations }
+pub fn step(d: &ReadDossier<'_>, j: usize, x: Pair) -> Option<BothStep>
     ensures { StepIs d.now.table.now d.now.rows.now d.now.firsts.now d.now.groups.now d.now.operations j x.a x.c result }
 {
-    if d.operations <= j {
+    if d.arrays.operations <= j {
         return None;
     }
-    let ready = prepare(d, j);
+    let ready = prepare(&d.arrays, j);
     if ready.part.abstracts.bindings <= x.a || ready.part.concretes.bindings <= x.c {
         return None;
     }
     let s = StepSearch {
-        search: ready.search(d.table),
+        search: ready.search(d.arrays.table),
     };
     let mut memo = [0u64; memo::NUMBERS];
     step_from(&s, x, &mut memo)

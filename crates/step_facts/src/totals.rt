@@ -1,13 +1,11 @@
 // How many states, related pairs and promised steps there are.
 ghost use Rattle.std.specs.Prelude.{◌<◌};
 ghost use Rattle.memo.specs.MemoPromises.{Memo};
-ghost use Rattle.state_facts.specs.Reads.{ReadAsked};
 ghost use Rattle.step_facts.specs.FactPromises.{Summed, one, state_test, related_test, ready_test, adds, AddedIs, TotalIs};
 ghost use Rattle.step_facts.specs.FactPromises.{StatesCounted, PairsCounted, PromisesCounted};
 
 use crate::bits::{Side, able};
-use search_groups::Dossier;
-use step_searches::{StepSearch, next_abstract_state, next_related_state, prepare};
+use step_searches::{ReadDossier, StepSearch, next_abstract_state, next_related_state, prepare};
 
 // The operation that is asked for what all of them have in common.
 const FIRST: usize = 0;
@@ -15,6 +13,8 @@ const FIRST: usize = 0;
 // What is counted: abstract states; pairs of related states, so that an abstract state adds how many concrete states are related to it; pairs of an abstract state and inputs with which
 // the abstract side can step.
 // Form 1: kinds of a count, no result.
+// Form 7: `count_at` matches it, once, and two functions hand it on: a closure in its place is lent the memory, and each of the two would ask of it, for every memory that is sound, what
+// `count_at` promises in two clauses.
 #[derive(Clone, Copy)]
 pub enum Counted {
     States,
@@ -91,40 +91,36 @@ fn count_all(s: &StepSearch<'_>, counted: Counted, memo: &mut [u64; memo::NUMBER
 }
 
 // What they come to for operation j of the arrays; nothing is counted where the dossier has no such operation.
-fn total(d: &Dossier<'_>, j: usize, counted: Counted) -> usize
-    requires { ReadAsked d.now.table.now d.now.rows.now d.now.firsts.now d.now.groups.now d.now.operations }
+fn total(d: &ReadDossier<'_>, j: usize, counted: Counted) -> usize
     ensures { TotalIs d.now.table.now d.now.rows.now d.now.firsts.now d.now.groups.now d.now.operations j counted result }
 {
-    if d.operations <= j {
+    if d.arrays.operations <= j {
         return 0;
     }
-    let ready = prepare(d, j);
+    let ready = prepare(&d.arrays, j);
     let s = StepSearch {
-        search: ready.search(d.table),
+        search: ready.search(d.arrays.table),
     };
     let mut memo = [0u64; memo::NUMBERS];
     count_all(&s, counted, &mut memo)
 }
 
 // The number of abstract states, of a dossier that has an operation.
-pub fn abstract_states(d: &Dossier<'_>) -> usize
-    requires { ReadAsked d.now.table.now d.now.rows.now d.now.firsts.now d.now.groups.now d.now.operations }
+pub fn abstract_states(d: &ReadDossier<'_>) -> usize
     ensures { StatesCounted d.now.table.now d.now.rows.now d.now.firsts.now d.now.groups.now d.now.operations result }
 {
     total(d, FIRST, Counted::States)
 }
 
 // The number of pairs of related states, of a dossier that has an operation.
-pub fn related_pairs(d: &Dossier<'_>) -> usize
-    requires { ReadAsked d.now.table.now d.now.rows.now d.now.firsts.now d.now.groups.now d.now.operations }
+pub fn related_pairs(d: &ReadDossier<'_>) -> usize
     ensures { PairsCounted d.now.table.now d.now.rows.now d.now.firsts.now d.now.groups.now d.now.operations result }
 {
     total(d, FIRST, Counted::Pairs)
 }
 
 // The number of pairs of an abstract state and inputs with which operation j can step.
-pub fn promises(d: &Dossier<'_>, j: usize) -> usize
-    requires { ReadAsked d.now.table.now d.now.rows.now d.now.firsts.now d.now.groups.now d.now.operations }
+pub fn promises(d: &ReadDossier<'_>, j: usize) -> usize
     ensures { PromisesCounted d.now.table.now d.now.rows.now d.now.firsts.now d.now.groups.now d.now.operations j result }
 {
     total(d, j, Counted::Promises)

@@ -1,12 +1,12 @@
 -- Concrete states by the numbers of their bindings: the slots hold the c-th binding, the test of the state's predicate answers for it, and a loop stops at the first that is a state.
 -- Assumes nothing.
-use mathlib.Core.Path.{◌≡◌, sym, ap, subst, ◌∙◌}
-use mathlib.Core.Bool.{Bool, true, false}
+use mathlib.Core.Path.{◌≡◌, sym, subst, ◌∙◌}
+use mathlib.Core.Bool.{Bool}
 use mathlib.Core.List.{List, [], ◌∷◌}
 use Prim.Native.Nat.{ℕ, suc, ◌<◌}
 use lib.ListN.{get_or, length}
 use lib.IntN.{ℤ, pos}
-use Rattle.form.specs.Tree.{Operation, Dossier}
+use Rattle.form.specs.Tree.{Dossier}
 use Rattle.static_rules.specs.Carriers.{Variable}
 use Rattle.static_rules.specs.Scope.{unprimed}
 use Rattle.meaning.specs.Meaning.{Binding}
@@ -22,39 +22,15 @@ use Rattle.evaluation.specs.SlotValues.{Slotted}
 use Rattle.states.specs.StateTests.{Placed}
 use Rattle.states.specs.Promises.{ContextAsked, ContextAnswers}
 use Rattle.states.proofs.StateLaws.{concrete-context, asked-at, answer_at}
-use Rattle.points.specs.Points.{span}
-use Rattle.points.proofs.PointBindings.{span-count}
+use Rattle.points.proofs.PointBindings.{variable-counts}
 use Rattle.plans.specs.declared.Part.{Part}
 use Rattle.part_setup.specs.PartTestsPartsByNumber.{concrete_at}
-use Rattle.part_setup.specs.ReadingsReadings.{ReadingOf}
-use Rattle.lexical.specs.Lists.{upward}
-use Rattle.step_searches.specs.StepPromises.{StepSearches, OpeningSearches, ConcreteStates, ConcreteAsked, StateAnswers}
-
--- ---- the parts that have them
-
-module _ {table rows firsts groups plan cells : List ℕ} {p : Part} {d : Dossier} (R : ReadingOf table rows firsts groups d) where
-  pub states-of-steps : {op : Operation} → StepSearches table plan cells p d op → ConcreteStates table rows firsts cells p d
-  states-of-steps x = record {
-    tests = R.tests;
-    celled = x.celled.states.concretes;
-    count = ap (λ (z : Part). z.concretes.variables) x.part_is;
-    bindings = ap (λ (z : Part). z.concretes.bindings) x.part_is;
-    few = x.few.concrete_bindings_lem;
-  }
-
-  pub states-of-opening : OpeningSearches table plan cells p d → ConcreteStates table rows firsts cells p d
-  states-of-opening x = record {
-    tests = R.tests;
-    celled = x.celled.concretes;
-    count = ap (λ (z : Part). z.concretes.variables) x.part_is;
-    bindings = ap (λ (z : Part). z.concretes.bindings) x.part_is;
-    few = x.few.concrete_bindings_lem;
-  }
+use Rattle.step_searches.specs.StepPromises.{ConcreteStates, ConcreteAsked, StateAnswers}
 
 -- ---- one binding
 
 -- values that stand in slots one behind the other are those of the names there
-slotted-there : (s : ℕ) (vs : List Variable) (b : Binding) (σ : List ℤ) → Over vs b → Holding σ s b → Slotted (slotted s vs) b σ
+pub slotted-there : (s : ℕ) (vs : List Variable) (b : Binding) (σ : List ℤ) → Over vs b → Holding σ s b → Slotted (slotted s vs) b σ
 unfolding Over Holding Slotted slotted
 slotted-there s [] [] σ o h = tt
 slotted-there s [] (x ∷ b) σ o h = absurd o
@@ -69,8 +45,7 @@ module _ {table rows firsts cells : List ℕ} {p : Part} {d : Dossier} (x : Conc
   grouped = record { group = cs; each = x.celled; long = sym x.count; few = x.few }
 
   counted : Counts cells 8 p.concretes.variables p.concretes.bindings
-  counted vs h e =
-      x.bindings ∙ sym (span-count cells 8 cs x.celled) ∙ ap (λ (m : ℕ). span cells (upward 8 m)) (sym x.count ∙ sym e) ∙ span-count cells 8 vs h
+  counted = variable-counts cells 8 p.concretes.variables p.concretes.bindings cs x.celled (sym x.count) x.bindings
 
   module _ {c : ℕ} (l : c < p.concretes.bindings) {old σ : List ℤ} (long : length old ≡ 64) (h : HoldsBinding cells 8 p.concretes.variables c σ) (o : Others (pos 0) old 8 p.concretes.variables σ) where
     in-slots : Placed cs (concrete_slots d) (concrete_at d c) σ
@@ -107,8 +82,5 @@ module _ {table rows firsts cells : List ℕ} {p : Part} where
 
 -- what the test of one binding says
 module _ {table rows firsts cells : List ℕ} {p : Part} {d : Dossier} (x : ConcreteStates table rows firsts cells p d) where
-  pub is-state : (c : ℕ) → StateAnswers table rows firsts cells p c true → is_state d d.concrete (concrete_at d c) ≡ true
-  is-state c a = sym (a.is d x)
-
-  pub no-state : (c : ℕ) → StateAnswers table rows firsts cells p c false → is_state d d.concrete (concrete_at d c) ≡ false
-  no-state c a = sym (a.is d x)
+  pub state-says : (c : ℕ) {r : Bool} → StateAnswers table rows firsts cells p c r → is_state d d.concrete (concrete_at d c) ≡ r
+  state-says c a = sym (a.is d x)

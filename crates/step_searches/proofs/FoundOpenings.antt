@@ -1,4 +1,5 @@
 -- What the searches of the initialisation part are asked, and what they find by numbers. Assumes nothing.
+-- Form 8: a law for each group and each search, as in FoundSteps: the part is another one, and so are the sizes that are meant.
 use mathlib.Core.Path.{◌≡◌, sym, ap, subst, ◌∙◌}
 use mathlib.Core.List.{List}
 use Prim.Native.Nat.{ℕ, ◌<◌, ◌≤◌}

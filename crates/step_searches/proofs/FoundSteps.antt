@@ -1,4 +1,5 @@
 -- What the searches of an operation's correctness part are asked, and what they find by numbers. Assumes nothing.
+-- Form 8: a law for each group and each search; what they share is `bindable`, `asks` and `finds` of FoundNumbers, and left is which sizes of the part are meant.
 use mathlib.Core.Path.{◌≡◌, refl, sym, ap, ap₂, subst, ◌∙◌}
 use mathlib.Core.Bool.{Bool}
 use mathlib.Core.List.{List, ◌++◌}
@@ -267,7 +268,7 @@ module _ {table plan cells : List ℕ} {p : Part} {d : Dossier} {op : Operation}
 
   -- ---- how many steps and after states a search has
 
-  steps-end : p.readying.bindings ≡ p.outputs.bindings * p.abstracts.bindings
+  pub steps-end : p.readying.bindings ≡ p.outputs.bindings * p.abstracts.bindings
   steps-end = by_part (λ (z : Part). z.readying.bindings ≡ z.outputs.bindings * z.abstracts.bindings) refl
 
   matches-end : p.meeting.bindings ≡ p.abstracts.bindings

@@ -6,6 +6,7 @@ pub mod LentSearches
 pub mod FoundSteps
 pub mod FoundOpenings
 pub mod PreparedSearches
+pub mod PartSizes
 pub mod ConcreteStates
 -- what crates above name of crates below
 pub use Rattle.parts.proofs.LentParts as LentParts

@@ -10,7 +10,6 @@ use Rattle.static_rules.specs.Scope.{unprimed, outputs}
 use Rattle.plans.specs.declared.Part.{Part}
 use Rattle.plans.specs.PlanPromises.{CorrectnessPlan}
 use Rattle.part_setup.specs.ReadingsReadings.{ReadingOf}
-use Rattle.part_setup.specs.PartTestsPartGroups.{StateCells}
 use Rattle.parts.specs.PartSearchesPartCells.{StatesCelled}
 use Rattle.parts.proofs.PartSearchesOperationPremises as premises
 use Rattle.parts.proofs.PartSearchesOperationPremises.{OperationReading}
@@ -18,11 +17,9 @@ use Rattle.parts.proofs.PartSearchesOperationSteps.{steps_search}
 use Rattle.parts.proofs.PartSearchesCorrectnessNest as correctness
 use Rattle.parts.proofs.PartSearchesInitialisationNest as initialisation
 use Rattle.parts.specs.SearchPromises.{OpeningReady, CorrectnessReady, LookAsked}
+use Rattle.parts.proofs.LookLaws.{state-cells}
 use Rattle.parts.proofs.SetupLaws.{opening-counts, OperationLook, operation-counts, correctness-is}
 use Rattle.step_searches.specs.StepPromises.{StatesFew, StepSearches, PrepareAsked, Prepared, OpenAsked, Opened}
-
-state-cells : {cells : List ℕ} {d : Dossier} → StateCells cells (unprimed d d.abstract) (unprimed d d.concrete) → StatesCelled cells d
-state-cells c = record { abstracts = c.abstracts; concretes = c.concretes; concretes_primed = c.concretes_primed; abstracts_primed = c.abstracts_primed }
 
 states-few : {table rows firsts groups : List ℕ} {d : Dossier} → ReadingOf table rows firsts groups d → StatesFew d
 states-few R = record {

@@ -52,23 +52,19 @@ pub record PutAsked (cells : List ℕ) (base n w k : ℕ) (before : List (List �
 pub record PutAnswers (cells : List ℕ) (base n k : ℕ) (before after : List (List ℤ)) : Type 0 where
   pub means : (δ : Point) → Shows cells δ before → Shows cells (placed cells (upward base n) δ k) after
 
--- group_at(base, n, w, k)
-pub record GroupIs (base n w k : ℕ) (r : Given) : Type 0 where
-  pub is : r ≡ record { base = base; n = n; w = w; k = k }
-
 -- ---- a search with some groups at given bindings, and all other variables at their first values
 
 abbrev pub no_group : Given
-no_group = record { base = 0; n = 0; w = 0; k = 0 }
+no_group = record { base = 0; size = record { variables = 0; bindings = 0 }; k = 0 }
 
 -- the point at which the first groups are, one after the other
 unfoldable pub given_at : (cells : List ℕ) (gs : List Given) → ℕ → Point
 given_at cells gs zero = λ (s : ℕ). 0
-given_at cells gs (suc i) = placed cells (upward (get_or gs i no_group).base (get_or gs i no_group).n) (given_at cells gs i) (get_or gs i no_group).k
+given_at cells gs (suc i) = placed cells (upward (get_or gs i no_group).base (get_or gs i no_group).size.variables) (given_at cells gs i) (get_or gs i no_group).k
 
 unfoldable pub EachBindable : (cells : List ℕ) → List Given → Type 0
 EachBindable cells [] = Unit {0}
-EachBindable cells (g ∷ gs) = Bindable cells g.base g.n g.w g.k × EachBindable cells gs
+EachBindable cells (g ∷ gs) = Bindable cells g.base g.size.variables g.size.bindings g.k × EachBindable cells gs
 
 pub record GivenAsked (table plan cells : List ℕ) (gs : List Given) (u j m w from : ℕ) : Type 0 where
   pub first_values : FirstValues cells

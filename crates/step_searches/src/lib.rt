@@ -1,11 +1,14 @@
 // States and steps of a dossier's two machines, one after the other, by the numbers of their bindings: the searches of an operation's correctness part and of the initialisation part,
 // with the variables that are given at one of their bindings and all others at their first values.
+// Form 5: the memory goes with the search through eight functions: it is written where the search is read, and in one struct, lent to be written, each of the eight
+// would promise that the search is the same behind it. What is asked of an initialisation part is asked of two functions: a struct around `PartSearch` with its
+// `Model` is twelve lines for two clauses.
 #![tactic(auto)]
 
 ghost use Rattle.std.specs.Prelude.{◌*◌, ◌<◌, ◌≤◌, IfSome, unwrap_or};
 ghost use Rattle.memo.specs.MemoPromises.{Memo};
 ghost use Rattle.step_searches.specs.StepPromises.{PutAsked, PutAnswers, PrepareAsked, Prepared, OpenAsked, Opened, OpeningAsked, Below};
-ghost use Rattle.step_searches.specs.StepPromises.{GroupIs, GivenAsked, GivenAnswers};
+ghost use Rattle.step_searches.specs.StepPromises.{GivenAsked, GivenAnswers};
 ghost use Rattle.step_searches.specs.StepPromises.{AbstractStateFound, RelatedStateFound, AbstractStepFound, ConcreteStepFound, MatchFound};
 ghost use Rattle.step_searches.specs.StepPromises.{InitialStateFound, InitialMatchFound, ConcreteAsked, StateAnswers, ConcreteStateFound};
 
@@ -48,33 +51,49 @@ impl<'a> Model for StepSearch<'a> {
     ghost invariant = { λ s. StepsAsked s.search.table.now s.search.plan.now s.search.cells.now s.search.part };
 }
 
-// A group of variables at one of its bindings: n variables from a slot on, with w bindings, at the k-th.
+// A dossier that was read: its arrays, and how many operations it has, are what `read` leaves of a text.
+#[derive(Drop)]
+pub struct ReadDossier<'a> {
+    pub arrays: Dossier<'a>,
+}
+
+impl<'a> Model for ReadDossier<'a> {
+    ghost use Rattle.search_groups.specs.declared.Dossier.{Dossier};
+    ghost use Rattle.step_searches.specs.StepPromises.{ReadAsked};
+
+    ghost Value = { Dossier };
+
+    ghost view = { λ d. d.arrays };
+
+    ghost invariant = { λ d. ReadAsked d.arrays.table.now d.arrays.rows.now d.arrays.firsts.now d.arrays.groups.now d.arrays.operations };
+}
+
+// What a search among states goes over: the dossier, the cells of a part's variables, and the part's sizes.
+#[derive(Drop)]
+pub struct StateSearch<'a> {
+    pub dossier: Dossier<'a>,
+    pub cells: [u32; CELLS],
+    pub part: Part,
+}
+
+// A group of variables at one of its bindings: those from a slot on, at the k-th.
 #[derive(Clone, Copy)]
 struct Given {
     base: usize,
-    n: usize,
-    w: usize,
+    size: GroupSize,
     k: usize,
 }
 
-fn group_at(base: usize, size: GroupSize, k: usize) -> Given
-    ensures { GroupIs base size.variables size.bindings k result }
-{
-    Given {
-        base,
-        n: size.variables,
-        w: size.bindings,
-        k,
-    }
-}
-
 // The variables of a group get the values of its binding, primed ones in both arrays.
+// Form 2: of the loop of `slot_carriers::groups::bind` it has the three lines that take the digits off: what is done with a digit is one store there, two in two arrays
+// here. A function that answers the digits leaves a second loop over them to each of the two, and a closure that is handed one digit after the other writes
+// an array that it captures, of which no law says what stands in it behind the loop.
 fn put_group(cells: &[u32; CELLS], g: Given, arrays: &mut [[i64; SLOTS]; 2])
-    requires { PutAsked cells.now g.base g.n g.w g.k arrays.old }
-    ensures { PutAnswers cells.now g.base g.n g.k arrays.old arrays.new }
+    requires { PutAsked cells.now g.base g.size.variables g.size.bindings g.k arrays.old }
+    ensures { PutAnswers cells.now g.base g.size.variables g.k arrays.old arrays.new }
 {
-    let (mut w, mut k) = (g.w, g.k);
-    for slot in g.base..g.base + g.n {
+    let (mut w, mut k) = (g.size.bindings, g.k);
+    for slot in g.base..g.base + g.size.variables {
         w /= count_of(cells, slot);
         store(cells, slot, k / w, arrays);
         k %= w;
@@ -104,10 +123,10 @@ fn next_with(
     span: Span,
     memo: &mut [u64; memo::NUMBERS],
 ) -> Option<usize>
-    requires given_asked { GivenAsked s.now.table.now s.now.plan.now s.now.cells.now given.now span.u span.j span.m span.w span.from }
+    requires given_asked { GivenAsked s.now.table.now s.now.plan.now s.now.cells.now given.now span.u span.j span.size.variables span.size.bindings span.from }
     requires memo { Memo s.now.table.now memo.old }
-    ensures answers { GivenAnswers s.now.table.now s.now.plan.now s.now.cells.now given.now span.u span.j span.m span.w span.from (unwrap_or result span.w) }
-    ensures low { IfSome result (λ k. k < span.w) }
+    ensures answers { GivenAnswers s.now.table.now s.now.plan.now s.now.cells.now given.now span.u span.j span.size.variables span.size.bindings span.from (unwrap_or result span.size.bindings) }
+    ensures low { IfSome result (λ k. k < span.size.bindings) }
     ensures remembers { Memo s.now.table.now memo.new }
 {
     let mut arrays = first_values(s.cells);
@@ -115,7 +134,7 @@ fn next_with(
         put_group(s.cells, *g, &mut arrays);
     }
     let r = seek(s, span, &mut arrays, memo);
-    (r < span.w).then_some(r)
+    (r < span.size.bindings).then_some(r)
 }
 
 // The next abstract state.
@@ -133,8 +152,7 @@ pub fn next_abstract_state(
     let span = Span {
         u: STATES,
         j: 0,
-        m: s.search.part.abstracts.variables,
-        w: s.search.part.abstracts.bindings,
+        size: s.search.part.abstracts,
         from,
     };
     next_with(&s.search, &[], span, memo)
@@ -154,12 +172,15 @@ pub fn next_related_state(
     ensures remembers { Memo s.now.table.now memo.new }
 {
     let p = s.search.part;
-    let state = group_at(slots::ABSTRACT, p.abstracts, a);
+    let state = Given {
+        base: slots::ABSTRACT,
+        size: p.abstracts,
+        k: a,
+    };
     let span = Span {
         u: RELATED,
         j: 0,
-        m: p.concretes.variables,
-        w: p.concretes.bindings,
+        size: p.concretes,
         from,
     };
     next_with(&s.search, &[state], span, memo)
@@ -180,13 +201,20 @@ pub fn next_abstract_step(
     ensures remembers { Memo s.now.table.now memo.new }
 {
     let p = s.search.part;
-    let state = group_at(slots::ABSTRACT, p.abstracts, a);
-    let inputs = group_at(slots::INPUTS, p.inputs, i);
+    let state = Given {
+        base: slots::ABSTRACT,
+        size: p.abstracts,
+        k: a,
+    };
+    let inputs = Given {
+        base: slots::INPUTS,
+        size: p.inputs,
+        k: i,
+    };
     let span = Span {
         u: READY,
         j: 0,
-        m: p.readying.variables,
-        w: p.readying.bindings,
+        size: p.readying,
         from,
     };
     next_with(&s.search, &[state, inputs], span, memo)
@@ -207,13 +235,23 @@ pub fn next_concrete_step(
     ensures remembers { Memo s.now.table.now memo.new }
 {
     let p = s.search.part;
-    let state = group_at(slots::CONCRETE, p.concretes, c);
-    let inputs = group_at(slots::INPUTS, p.inputs, i);
+    let state = Given {
+        base: slots::CONCRETE,
+        size: p.concretes,
+        k: c,
+    };
+    let inputs = Given {
+        base: slots::INPUTS,
+        size: p.inputs,
+        k: i,
+    };
     let span = Span {
         u: STEPS,
         j: 0,
-        m: p.outputs.variables + p.primes.variables,
-        w: p.outputs.bindings * p.concretes.bindings,
+        size: GroupSize {
+            variables: p.outputs.variables + p.primes.variables,
+            bindings: p.outputs.bindings * p.concretes.bindings,
+        },
         from,
     };
     next_with(&s.search, &[state, inputs], span, memo)
@@ -234,15 +272,30 @@ pub fn next_matching_state(
     ensures remembers { Memo s.now.table.now memo.new }
 {
     let p = s.search.part;
-    let state = group_at(slots::ABSTRACT, p.abstracts, b.a);
-    let inputs = group_at(slots::INPUTS, p.inputs, b.i);
-    let outputs = group_at(slots::OUTPUTS, p.outputs, b.o);
-    let after = group_at(slots::CONCRETE_PRIMED, p.primes, b.k);
+    let state = Given {
+        base: slots::ABSTRACT,
+        size: p.abstracts,
+        k: b.a,
+    };
+    let inputs = Given {
+        base: slots::INPUTS,
+        size: p.inputs,
+        k: b.i,
+    };
+    let outputs = Given {
+        base: slots::OUTPUTS,
+        size: p.outputs,
+        k: b.o,
+    };
+    let after = Given {
+        base: slots::CONCRETE_PRIMED,
+        size: p.primes,
+        k: b.k,
+    };
     let span = Span {
         u: MET,
         j: 0,
-        m: p.meeting.variables,
-        w: p.meeting.bindings,
+        size: p.meeting,
         from,
     };
     next_with(&s.search, &[state, inputs, outputs, after], span, memo)
@@ -265,8 +318,7 @@ pub fn next_initial_state(
     let span = Span {
         u: RELATED,
         j: 0,
-        m: s.part.concretes.variables,
-        w: s.part.concretes.bindings,
+        size: s.part.concretes,
         from,
     };
     next_with(s, &[], span, memo)
@@ -288,44 +340,37 @@ pub fn next_initial_match(
     ensures remembers { Memo s.now.table.now memo.new }
 {
     let p = s.part;
-    let state = group_at(slots::CONCRETE, p.concretes, c);
+    let state = Given {
+        base: slots::CONCRETE,
+        size: p.concretes,
+        k: c,
+    };
     let span = Span {
         u: MET,
         j: 0,
-        m: p.meeting.variables,
-        w: p.meeting.bindings,
+        size: p.meeting,
         from,
     };
     next_with(s, &[state], span, memo)
 }
 
 // Is the c-th binding of the concrete variables a state?
-pub fn concrete_state_at(d: &Dossier<'_>, cells: &[u32; CELLS], p: Part, c: usize) -> bool
-    requires c_lt_nc { c < p.concretes.bindings }
-    requires concrete_asked { ConcreteAsked d.now.table.now d.now.rows.now d.now.firsts.now cells.now p }
-    ensures { StateAnswers d.now.table.now d.now.rows.now d.now.firsts.now cells.now p c result }
+pub fn concrete_state_at(s: &StateSearch<'_>, c: usize) -> bool
+    requires c_lt_nc { c < s.now.part.concretes.bindings }
+    requires concrete_asked { ConcreteAsked s.now.dossier.table.now s.now.dossier.rows.now s.now.dossier.firsts.now s.now.cells s.now.part }
+    ensures { StateAnswers s.now.dossier.table.now s.now.dossier.rows.now s.now.dossier.firsts.now s.now.cells s.now.part c result }
 {
+    let concretes = s.part.concretes;
     let mut values = [0i64; SLOTS];
-    bind(
-        cells,
-        slots::CONCRETE,
-        p.concretes.variables,
-        p.concretes.bindings,
-        c,
-        &mut values,
-    );
-    context_holds(d, CONCRETE_STATE, &mut values)
+    bind(&s.cells, slots::CONCRETE, concretes, c, &mut values);
+    context_holds(&s.dossier, CONCRETE_STATE, &mut values)
 }
 
-// The next concrete state, related or not; the part is any of the dossier's.
-pub fn next_concrete_state(
-    d: &Dossier<'_>,
-    cells: &[u32; CELLS],
-    p: Part,
-    from: usize,
-) -> Option<usize>
-    requires concrete_asked { ConcreteAsked d.now.table.now d.now.rows.now d.now.firsts.now cells.now p }
-    ensures { ConcreteStateFound d.now.table.now d.now.rows.now d.now.firsts.now cells.now p from result }
+// The next concrete state, related or not; the part is any of the dossier's. No crate here calls it: with `next_initial_state` and `concrete_state_at` it is what is promised of the
+// concrete states alone, for a program that goes through them as `state_facts` goes through the abstract ones.
+pub fn next_concrete_state(s: &StateSearch<'_>, from: usize) -> Option<usize>
+    requires concrete_asked { ConcreteAsked s.now.dossier.table.now s.now.dossier.rows.now s.now.dossier.firsts.now s.now.cells s.now.part }
+    ensures { ConcreteStateFound s.now.dossier.table.now s.now.dossier.rows.now s.now.dossier.firsts.now s.now.cells s.now.part from result }
 {
-    (from..p.concretes.bindings).find(|&c| concrete_state_at(d, cells, p, c))
+    (from..s.part.concretes.bindings).find(|&c| concrete_state_at(s, c))
 }

@@ -32,7 +32,7 @@ pub enum Bracket {
 }
 
 // A text and its symbols, as they are scanned: their kinds, 0 past the last one, where they start, and their values.
-// Form 6: these are three arrays of fixed length, which the caller of `read` lends (document 01).
+// Form 6: three arrays side by side, as `symbols::scan` and `parse` fill the arrays that they are lent (document 01).
 #[derive(Clone, Copy)]
 pub struct Symbols<'a> {
     pub text: &'a [u8],
@@ -87,7 +87,7 @@ fn number_at(numbers: &[u16], s: usize) -> usize
 
 impl Symbols<'_> {
     // The kind of a symbol, 0 past the last one, as the scanner leaves it there.
-    // Form 1: 0 is no kind's code, so that each test of a kind is false there, as it would be for `None`.
+    // Form 1: 0 is no kind's code: a test of a kind is false there, as for `None`; what asks for the end itself (`before_byte`, `ends` of refusal_hints) asks for 0.
     pub fn kind(&self, s: usize) -> u8
         ensures { result ≡ slice_index self.now.kinds.now s }
     {
@@ -155,24 +155,20 @@ impl Symbols<'_> {
         tightness_of(self.kind(s))
     }
 
-    // How many brackets are open behind symbol s, on a walk that goes into brackets of one kind and out of those of the other; none where the walk ends in front of it.
-    fn depth_behind(
-        &self,
-        s: usize,
-        depth: usize,
-        least: Tightness,
-        into: Bracket,
-    ) -> Option<usize> {
-        if let Some(b) = bracket_of(self.kind(s)) {
-            if b == into {
-                return Some(depth.saturating_add(1));
+    // Does a walk end at symbol s that goes into brackets of one kind and out of those of the other? If not, `depth` is how many are open behind it.
+    fn is_end(&self, s: usize, depth: &mut usize, least: Tightness, into: Bracket) -> bool {
+        match bracket_of(self.kind(s)) {
+            Some(b) if b == into => {
+                *depth = depth.saturating_add(1);
+                false
             }
-            return depth.checked_sub(1);
+            Some(_) if *depth == 0 => true,
+            Some(_) => {
+                *depth -= 1;
+                false
+            }
+            None => *depth == 0 && self.tightness_at(s) < least,
         }
-        if 0 < depth || least <= self.tightness_at(s) {
-            return Some(depth);
-        }
-        None
     }
 
     // The first symbol of what stands before s and binds at least as tight as `least`, brackets whole.
@@ -180,13 +176,10 @@ impl Symbols<'_> {
         ensures { result ≤ s }
     {
         let mut depth: usize = 0;
-        for k in (0..s).rev() {
-            match self.depth_behind(k, depth, least, Bracket::Close) {
-                Some(d) => depth = d,
-                None => return k + 1,
-            }
-        }
-        0
+        (0..s)
+            .rev()
+            .find(|&k| self.is_end(k, &mut depth, least, Bracket::Close))
+            .map_or(0, |k| k + 1)
     }
 
     // Behind the last symbol of what stands from s on and binds so tight.
@@ -194,13 +187,9 @@ impl Symbols<'_> {
         ensures { s ≤ result }
     {
         let mut depth: usize = 0;
-        for k in s..SYMBOLS {
-            match self.depth_behind(k, depth, least, Bracket::Open) {
-                Some(d) => depth = d,
-                None => return k,
-            }
-        }
-        s.max(SYMBOLS)
+        (s..SYMBOLS)
+            .find(|&k| self.is_end(k, &mut depth, least, Bracket::Open))
+            .unwrap_or(s.max(SYMBOLS))
     }
 
     // Does a term go on around what begins at s: a bracket, or a brace that lists?

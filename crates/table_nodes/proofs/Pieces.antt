@@ -1,5 +1,5 @@
 -- Pieces written side by side are one piece, whichever of them is written first.
-use mathlib.Core.Path.{◌≡◌, sym, ap, ap₂, ◌∙◌}
+use mathlib.Core.Path.{◌≡◌, refl, sym, ap, ap₂, ◌∙◌}
 use mathlib.Core.List.{List, [], ◌∷◌, ◌++◌, append_assoc}
 use Prim.Native.Nat.{ℕ, suc, ◌+◌, ◌≤◌, ◌<◌}
 use native.Mathlib.Omega.{arith}
@@ -68,3 +68,17 @@ unfolding patch
 part-written a k out ys piece e h =
     let n : a + k ≡ a + length piece = omega arith in
     ap₂ (λ (x y : List ℕ). take a out ++ (x ++ y)) e (drop-drop k a out ∙ ap (λ (j : ℕ). drop j out) n)
+
+-- one number more behind the piece
+pub patch-more : (n m v : ℕ) (x out : List ℕ) → m ≡ n + length x → m < length out → set (patch n x out) m v ≡ patch n (x ++ (v ∷ [])) out
+patch-more n m v x out e h =
+    let l = patch-length n x out (omega arith) in
+    patch-set m v (patch n x out) (omega arith) ∙ patch-behind n m x (v ∷ []) out e (omega arith)
+
+-- four numbers, stored one behind the other
+pub four-stored : (out : List ℕ) (at k i a b : ℕ) → at + 4 ≤ length out → set (set (set (set out at b) (at + 1) a) (at + 2) i) (at + 3) k ≡ patch at (b ∷ a ∷ i ∷ k ∷ []) out
+four-stored out at k i a b h =
+    ap (λ (x : List ℕ). set (set (set x (at + 1) a) (at + 2) i) (at + 3) k) (patch-set at b out (omega arith))
+    ∙ ap (λ (x : List ℕ). set (set x (at + 2) i) (at + 3) k) (patch-more at (at + 1) a (b ∷ []) out refl (omega arith))
+    ∙ ap (λ (x : List ℕ). set x (at + 3) k) (patch-more at (at + 2) i (b ∷ a ∷ []) out refl (omega arith))
+    ∙ patch-more at (at + 3) k (b ∷ a ∷ i ∷ []) out refl (omega arith)

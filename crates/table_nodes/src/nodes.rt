@@ -12,11 +12,17 @@ use type_rules::entries::Kind;
 use type_rules::kinds::{look, range_fits};
 
 // One node, from the place `at` on.
+// Form 2: `put` of form_nodes stores the same four numbers. One function would stand in `form`, below both, with its definition (`patch`); in form_nodes would stay
+// a function that answers the place behind, with a law from `patch` to `Writes`, in the place of the four stores.
+// Form 4: four stores, as at `put`, where a copy was measured.
 pub fn set_node(out: &mut [u16], at: usize, shape: u16, i: u16, a: u16, b: u16)
     requires { at + 4 ≤ length out.old }
     ensures { out.new ≡ patch at (node shape i a b) out.old }
 {
-    out[at..at + node::SIZE].copy_from_slice(&[b, a, i, shape]);
+    out[at] = b;
+    out[at + node::A] = a;
+    out[at + node::PLACE] = i;
+    out[at + node::SHAPE] = shape;
 }
 
 // No nodes of a tree end here.

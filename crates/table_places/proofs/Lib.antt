@@ -11,3 +11,5 @@ pub use Rattle.names.proofs.ReachTables as NamesReachTables
 pub use Rattle.names.proofs.TypesAgreeLeast as NamesTypesAgreeLeast
 pub use Rattle.names.proofs.TypesAgreeScope as NamesTypesAgreeScope
 pub use Rattle.names.proofs.TypesAgreeTypes as NamesTypesAgreeTypes
+pub use Rattle.names.proofs.DeclaredNamesNodePieces as NamesNodePieces
+pub use Rattle.node_spans.proofs.StandingParts as NodeSpansStandingParts

@@ -115,7 +115,7 @@ module _ (s r : List ℕ) where
   span_same : (j : ℕ) → j < length s → span (s ++ r) j ≡ span s j
   span_same j h = get_or-append s r 0 j h
 
-  starts-same : (k : ℕ) (os : List Operation) → 9 + 4 * (k + length os) ≤ length s → operation_starts (s ++ r) k os ≡ operation_starts s k os
+  pub starts-same : (k : ℕ) (os : List Operation) → 9 + 4 * (k + length os) ≤ length s → operation_starts (s ++ r) k os ≡ operation_starts s k os
   unfolding operation_starts
   starts-same k [] h = refl
   starts-same k (o ∷ os) h =
@@ -140,7 +140,7 @@ operation-spans from i (o ∷ os) ρ =
     let h = operation-spans f (i + operation_length o) os ρ in
     omega arith
 
-spans-length : (d : Dossier) (ρ : Numbering) → length (spans_of d ρ) ≡ 9 + 4 * length d.operations
+pub spans-length : (d : Dossier) (ρ : Numbering) → length (spans_of d ρ) ≡ 9 + 4 * length d.operations
 unfolding spans_of
 spans-length d ρ = let h = operation-spans (operations_from d ρ) (operations_at d) d.operations ρ in omega arith
 

@@ -1,16 +1,17 @@
 -- The carriers of declarations: what the code writes for a type's node, and a walk over declarations, with the place of the next one in front of the table.
 use mathlib.Core.Path.{◌≡◌, refl, ap, ap₂, sym, ◌∙◌, subst}
-use mathlib.Core.Bool.{Bool, true, false, cond}
+use mathlib.Core.Bool.{Bool, true, false, cond, ◌||◌}
+use mathlib.Core.Logic.{◌⊎◌, inl, inr, ⊎_elim}
 use mathlib.Core.List.{List, [], ◌∷◌, ◌++◌, map, append-nil, append_assoc}
 use Prim.Native.Nat.{ℕ, zero, suc, ◌+◌, ◌-◌, ◌*◌, ◌≤◌, ◌<◌}
 use native.Mathlib.Nat.{add-zero, zero-add}
 use native.Mathlib.Numerals.{add-one}
 use native.Mathlib.Omega.{arith}
-use lib.Dec.{eqb, ltb}
+use lib.Dec.{eqb}
 use lib.ListN.{length, take, drop, get_or, length-drop, take-append-drop}
 use lib.Seq.{take_at, drop_at, drop-drop, length-take-le}
 use Rattle.names.proofs.DeclaredNamesNodePieces.{Ends, place}
-use borrow.Author.Tests.{ne_eqb, lt-ltb, le-ltb}
+use borrow.Author.Tests.{ne_eqb}
 use Rattle.form.specs.Tree.{TypeForm, given_type, power_type, range_type, arrow_type, relation, partial, total, Declaration, declarations, Parameter, Operation}
 use Rattle.form.specs.Headings.{abstract_at, concrete_at, operations_at, operation_length}
 use Rattle.form.specs.Codes.{Numbering, node, type_codes, type_width, declaration_codes, parameter_codes}
@@ -53,7 +54,7 @@ part-short nodes from to n r p h = go (length r) refl
 unfoldable pub node_by : (shape a b x y : ℕ) → Sizes → List ℕ
 node_by s a b x y z =
     cond (eqb s 2) (node 2 0 a (range_count a b))
-    (cond (ltb s 4) (node s (given_index x) (given_size z x) 0) (node s (8 * given_index x + given_index y) (given_size z x) (given_size z y)))
+    (cond (eqb s 1 || eqb s 3) (node s (given_index x) (given_size z x) 0) (node s (8 * given_index x + given_index y) (given_size z x) (given_size z y)))
 
 node-by : (t : TypeForm) (T : Names) (z : Sizes) (ρ : Numbering)
     → node_by (shape_of t) (left_of t ρ) (right_of t ρ) (entry T (left_of t ρ)) (entry T (right_of t ρ)) z ≡ type_node t T z ρ
@@ -79,17 +80,18 @@ pub by-range : (s a b x y c : ℕ) (z : Sizes) → s ≡ 2 → c ≡ range_count
 unfolding node_by
 by-range s a b x y c z e h = ap (λ (n : ℕ). node 2 0 a n) h ∙ sym (ap (λ (n : ℕ). node_by n a b x y z) e)
 
-pub by_one : (s a b x y i n : ℕ) (z : Sizes) → (s ≡ 2 → ⊥) → s < 4 → i ≡ given_index x → n ≡ given_size z x → node s i n 0 ≡ node_by s a b x y z
+pub by_one : (s a b x y i n : ℕ) (z : Sizes) → (s ≡ 1) ⊎ (s ≡ 3) → i ≡ given_index x → n ≡ given_size z x → node s i n 0 ≡ node_by s a b x y z
 unfolding node_by
-by_one s a b x y i n z e l p q =
-    ap₂ (λ (j m : ℕ). node s j m 0) p q ∙ sym (rw (node_by, ne_eqb s 2 e, lt-ltb s 4 l) refl)
+by_one s a b x y i n z k p q =
+    let known = λ (m : ℕ). node m (given_index x) (given_size z x) 0 ≡ node_by m a b x y z in
+    ap₂ (λ (j m : ℕ). node s j m 0) p q ∙ ⊎_elim (λ e. subst known (sym e) refl) (λ e. subst known (sym e) refl) k
 
-pub by_two : (s a b x y i j n m : ℕ) (z : Sizes) → (s ≡ 2 → ⊥) → 4 ≤ s → i ≡ given_index x → j ≡ given_index y → n ≡ given_size z x → m ≡ given_size z y
+pub by_two : (s a b x y i j n m : ℕ) (z : Sizes) → (s ≡ 2 → ⊥) → ((s ≡ 1) ⊎ (s ≡ 3) → ⊥) → i ≡ given_index x → j ≡ given_index y → n ≡ given_size z x → m ≡ given_size z y
     → node s (8 * i + j) n m ≡ node_by s a b x y z
 unfolding node_by
 by_two s a b x y i j n m z e l p p' q q' =
     ap₂ (λ (k h : ℕ). node s (8 * k + h) n m) p p' ∙ ap₂ (λ (k h : ℕ). node s (8 * given_index x + given_index y) k h) q q'
-    ∙ sym (rw (node_by, ne_eqb s 2 e, le-ltb s 4 l) refl)
+    ∙ sym (rw (node_by, ne_eqb s 2 e, ne_eqb s 1 (λ h. l (inl h)), ne_eqb s 3 (λ h. l (inr h))) refl)
 
 -- a walk over declarations
 abbrev pub typing : Names → Sizes → List Typed → ℕ → List ℕ → Numbering → List ℕ

@@ -12,6 +12,7 @@ use type_rules::entries::Kind;
 use type_rules::kinds::entry;
 
 // The number of the given set that a name is.
+// Form 1: a node has 0 in the place of no such set; with an Option each of the three calls would add `.unwrap_or(0)`.
 fn given_index(k: Kind) -> u16
     ensures { (result ≡ given_index k) × (result < 8) }
 {
@@ -20,6 +21,7 @@ fn given_index(k: Kind) -> u16
 
 // What is read: the nodes of a dossier, where its parts stand among them, how many operations it has, the names of its given sets, and how many elements these
 // have.
+// Form 5: no `Parts`, whose spans are 80: here they may be of any number, as where this was a function over slices.
 #[derive(Clone, Copy)]
 pub struct Declarations<'a> {
     pub nodes: &'a [u16],
@@ -38,26 +40,26 @@ fn set_type(s: &Declarations<'_>, n: &[u16], q: usize, out: &mut [u16])
     let a = n[node::A];
     let b = n[0];
     let shape = n[node::SHAPE];
-    if shape == shapes::RANGE {
-        set_node(out, q, shapes::RANGE, 0, a, range_count(a, b));
-        return;
-    }
     let k = entry(s.names, usize::from(a));
-    if shape < shapes::RELATION {
-        set_node(out, q, shape, given_index(k), given_size(s.sizes, k), 0);
-        return;
+    match shape {
+        shapes::RANGE => set_node(out, q, shapes::RANGE, 0, a, range_count(a, b)),
+        shapes::SET | shapes::POWER => {
+            set_node(out, q, shape, given_index(k), given_size(s.sizes, k), 0);
+        }
+        _ => {
+            let l = entry(s.names, usize::from(b));
+            // the two given sets of an arrow in one number, as in the kind of its pairs
+            let i = entries::ROW * given_index(k) + given_index(l);
+            set_node(
+                out,
+                q,
+                shape,
+                i,
+                given_size(s.sizes, k),
+                given_size(s.sizes, l),
+            );
+        }
     }
-    let l = entry(s.names, usize::from(b));
-    // the two given sets of an arrow in one number, as in the kind of its pairs
-    let i = entries::ROW * given_index(k) + given_index(l);
-    set_node(
-        out,
-        q,
-        shape,
-        i,
-        given_size(s.sizes, k),
-        given_size(s.sizes, l),
-    );
 }
 
 // The carriers of declarations.

@@ -32,17 +32,12 @@ fn place_element(n: &[u16], j: u16, places: &mut [u16]) -> u16
 }
 
 // Variables have slots from `slot` on.
-// Form 3: with `enumerate` the slot would be `slot + k as u16`, a conversion and a sum at each declaration in the place of one more.
-// `zip(slot..)` was tried: the proof of this loop, with the start of the range for `s`, did not close before the first step and behind the last, where what is known of
-// the declarations left and of the slot is said of the two iterators of the zip.
 fn place_variables(code: &[u16], shift: u16, slot: u16, places: &mut [u16])
     requires { (length code.now ≤ 16384) × (slot < 64) }
     ensures { VariablesSet code.now shift slot places.old places.new }
 {
-    let mut s: u16 = slot;
-    for d in code.chunks_exact(node::DECLARATION) {
+    for (d, s) in code.chunks_exact(node::DECLARATION).zip(slot..) {
         put(places, usize::from(d[node::A]) + usize::from(shift), s);
-        s += 1;
     }
 }
 

@@ -27,8 +27,8 @@ use Rattle.names.proofs.PassAgreesParameters.{name_of}
 use Rattle.table_nodes.specs.TableByNumber.{Places}
 use Rattle.table_places.specs.ResolvedTable.{Slots, slotted}
 use Rattle.table_places.specs.DossierTableByNumber.{placing}
-use Rattle.search_groups.proofs.ScopePlaces.{slot_of}
-use Rattle.tables.proofs.SlotPlaces.{slot-there, Named, no_named, one_named, named-map, Once, no_once, one_once, into, write}
+use Rattle.search_groups.proofs.ScopePlaces.{slot_of, slot-there}
+use Rattle.tables.proofs.SlotPlaces.{Named, no_named, one_named, named-map, Once, no_once, one_once, into, write}
 use Rattle.refusals.proofs.FaultLists.{append_nil-both}
 use Rattle.static_rules.proofs.FoundCarriers.{variables-one}
 use Rattle.lexical.proofs.BooleanTests.{not-true}

@@ -20,7 +20,7 @@ use Rattle.names.proofs.PassAgreesNamed.{Base}
 use Rattle.names.proofs.PassAgreesStates.{scope}
 use Rattle.names.proofs.PassAgreesScopes.{titles-given, shows}
 use Rattle.names.proofs.PassAgreesOperations.{OperationsIn, no_operations, one_operation}
-use Rattle.names.proofs.FaultlessParts.{faultless}
+use Rattle.static_rules.proofs.Faultless.{faultless}
 use Rattle.names.proofs.PassAgrees.{DossierIn}
 use Rattle.table_nodes.specs.TableByNumber.{Places}
 use Rattle.table_places.specs.ResolvedTable.{Slots}

@@ -1,7 +1,7 @@
 -- The tables of names that the pass makes for the contexts of a dossier without faults: each shows the names in reach of its predicate.
 use mathlib.Core.Path.{◌≡◌, refl, ◌∙◌, sym}
 use mathlib.Core.List.{List, [], ◌∷◌, ◌++◌, map}
-use Prim.Native.Nat.{ℕ, zero, suc, ◌+◌, ◌≤◌, ◌<◌}
+use Prim.Native.Nat.{ℕ, suc, ◌+◌, ◌≤◌, ◌<◌}
 use native.Mathlib.Omega.{arith}
 use lib.ListN.{length, get_or, replicate, length-replicate}
 use Rattle.lexical.specs.Lists.{any}
@@ -12,25 +12,26 @@ use Rattle.form.specs.Codes.{Numbering}
 use Rattle.static_rules.specs.Carriers.{size_of}
 use Rattle.static_rules.specs.Scope.{Context, variables, given_names, state_names, abstract_taken, concrete_taken, operation_contexts, contexts}
 use Rattle.static_rules.specs.Names.{new_name, given_faults, parameter_faults, operation_faults, name_faults}
-use Rattle.type_rules.specs.TypesByNumber.{Names, Sizes, entry}
+use Rattle.type_rules.specs.TypesByNumber.{Names, Sizes}
 use Rattle.declared_names.specs.NamesByNumber.{variables_of, parameters_of, shown, hidden, reaching, leaving, title_named, parameters_shown, givens_named}
 use Rattle.names.proofs.ReachTables.{Numbered, Shows}
 use Rattle.names.proofs.PassAgreesTables.{Sees, unused}
 use Rattle.names.proofs.PassAgreesTypes.{Sized}
 use Rattle.names.proofs.PassAgreesDeclared.{TypedIn, Clear, clear, found, or_type}
-use Rattle.names.proofs.PassAgreesUse.{in_use, use-left, use-right, use-there, new_unused}
+use Rattle.names.proofs.PassAgreesUse.{in_use, use-there, new_unused}
 use Rattle.names.proofs.PassAgreesGivens.{GivensIn}
 use Rattle.names.proofs.PassAgreesNamed.{element_type, Base, givens-sees}
-use Rattle.names.proofs.PassAgreesStates.{typed-use, scope}
+use Rattle.names.proofs.PassAgreesStates.{scope}
 use Rattle.names.proofs.PassAgreesScopes.{TitlesIn, titles-given, titles-more, shows, Group, group, state-shown, state-named}
 use Rattle.names.proofs.PassAgreesConditions.{found-append, AreUsed, again, leave, conditions-named}
 use Rattle.names.proofs.PassAgreesParameters.{parameters-typed, parameter-unused}
 use Rattle.names.proofs.PassAgreesReach.{operation-reach, title-named, parameters-shown, reaching-sees, leaving-sees, reaching-uses}
 use Rattle.names.proofs.PassAgreesOperations.{reach_in, OperationsIn, no_operations, one_operation, operation-named}
-use Rattle.names.proofs.FaultlessParts.{Faultless, faultless}
-use Rattle.names.proofs.PassAgrees.{DossierIn}
+use Rattle.static_rules.proofs.Faultless.{Faultless, faultless}
+use Rattle.names.proofs.PassAgrees.{abstract-used, abstract-still, concrete-used, abstract-titles, concrete-titles, DossierIn}
 use Rattle.table_places.specs.DossierTableByNumber.{operation_kinds, kinds_of}
 use Rattle.refusals.proofs.FaultLists.{append_nil-both}
+use Rattle.lexical.proofs.Zeros.{zero-at}
 
 -- each context with its table of names
 pub data AllShown (ρ : Numbering) (P : Letters → Type 0) (z : Sizes) : List Context → List Names → Type 0 where
@@ -52,23 +53,7 @@ head_new gs us i o os e =
     let b = append_nil-both (new_name us o.title (suc i)) (parameter_faults gs [] (i + 2) o.parameters) a.0 in
     record { title_new = b.0; parameters_new = b.1; rest_new = a.1 }
 
--- ---- names in use ----
-
-module _ (d : Dossier) where
-  abstract-used : AreUsed (declarations d.abstract) (abstract_taken d)
-  abstract-used y e = use-left (state_names d.abstract) (given_names d.givens) y (sym (typed-use (declarations d.abstract) y) ∙ e)
-
-  abstract-still : AreUsed (declarations d.abstract) (concrete_taken d)
-  abstract-still y e = use-right (state_names d.concrete) (abstract_taken d) y (abstract-used y e)
-
-  concrete-used : AreUsed (declarations d.concrete) (concrete_taken d)
-  concrete-used y e = use-left (state_names d.concrete) (abstract_taken d) y (sym (typed-use (declarations d.concrete) y) ∙ e)
-
-  abstract-titles : TitlesIn d.givens (abstract_taken d)
-  abstract-titles = titles-more d.givens (state_names d.abstract) (given_names d.givens) (titles-given d.givens)
-
-  concrete-titles : TitlesIn d.givens (concrete_taken d)
-  concrete-titles = titles-more d.givens (state_names d.concrete) (abstract_taken d) abstract-titles
+-- ---- tables of states and operations ----
 
 module _ (ρ : Numbering) (P : Letters → Type 0) (ν : Numbered ρ P) {gs : List Given} (p : GivensIn P gs) (z : Sizes) (k : Sized gs z) where
   -- a state's predicate
@@ -150,16 +135,11 @@ module _ (ρ : Numbering) (P : Letters → Type 0) (ν : Numbered ρ P) (d : Dos
 
 -- ---- all contexts ----
 
-pub zero-entry : (n x : ℕ) → entry (replicate n 0) x ≡ 0
-zero-entry zero x = refl
-zero-entry (suc n) zero = refl
-zero-entry (suc n) (suc x) = zero-entry n x
-
 -- the table behind the given sets, from one of n names that are free
 pub free-sees : (ρ : Numbering) (P : Letters → Type 0) → Numbered ρ P → {gs : List Given} → GivensIn P gs → length gs ≤ 8 → (n : ℕ) → 16384 ≤ n → (i : ℕ)
     → given_faults [] i gs ≡ [] → Base ρ P gs (givens_named gs 0 (replicate n 0) ρ) (given_names gs)
 free-sees ρ P ν p few n long i e =
-    givens-sees ρ P ν p few (record { long = omega (arith, length-replicate {A = ℕ} n 0); are = λ y py. zero-entry n _ }) i e
+    givens-sees ρ P ν p few (record { long = omega (arith, length-replicate {A = ℕ} n 0); are = λ y py. zero-at n _ }) i e
 
 module _ (ρ : Numbering) (P : Letters → Type 0) (ν : Numbered ρ P) (d : Dossier) (h : DossierIn P d) (z : Sizes) (k : Sized d.givens z) (f : Faultless d) where
   from-givens : {T : Names} → Base ρ P d.givens T (given_names d.givens) → AllShown ρ P z (contexts d) (kinds_of d T ρ)

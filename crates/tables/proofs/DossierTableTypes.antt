@@ -26,7 +26,7 @@ use Rattle.names.proofs.PassAgreesTables.{same-name}
 use Rattle.names.proofs.PassAgreesTypes.{TypeIn}
 use Rattle.names.proofs.PassAgreesDeclared.{TypedIn, no_typed, one_typed}
 use Rattle.names.proofs.PassAgreesOperations.{OperationsIn, no_operations, one_operation}
-use Rattle.names.proofs.FaultlessParts.{Faultless}
+use Rattle.static_rules.proofs.Faultless.{Faultless}
 use Rattle.names.proofs.PassAgrees.{DossierIn}
 use Rattle.node_spans.specs.Spans.{spans_of, span}
 use Rattle.table_nodes.specs.TableByNumber as table

@@ -21,9 +21,10 @@ use Rattle.names.proofs.PassAgreesParameters.{name_of, use-ending}
 use Rattle.table_nodes.specs.TableByNumber.{Places}
 use Rattle.table_places.specs.ResolvedTable.{Slots}
 use Rattle.table_places.specs.DossierTableByNumber.{elements_placed, givens_placed}
-use Rattle.search_groups.proofs.ScopePlaces.{slot_of}
-use Rattle.tables.proofs.SlotPlaces.{none-some, slot-there, into, into-none, Elements, write}
+use Rattle.search_groups.proofs.ScopePlaces.{slot_of, slot-there}
+use Rattle.tables.proofs.SlotPlaces.{none-some, into, into-none, Elements, write}
 use Rattle.refusals.proofs.FaultLists.{append_nil-both}
+use Rattle.names.proofs.TypesAgreeScope.{some_one}
 
 -- the places of elements, as slots from 64 on
 unfoldable pub element_slots : (j : ℕ) → List Letters → Slots
@@ -99,9 +100,6 @@ givens-none (g ∷ gs) f y e = on (in_use (elements g) y) refl e (givens-none gs
     on true k h r = none-some (sym h)
     on false k h r = r h ∙ into-none (element_slots 0 (elements g)) f y (element-none 0 (elements g) y k)
 
-same-given : (g h : Given) → ◌≡◌ {A = Option Given} (some g) (some h) → g ≡ h
-same-given g h e = cc
-
 pub givens-at : (xs : List Letters) (i : ℕ) (gs : List Given) → given_faults xs i gs ≡ [] → (f : Name → ℕ) → Elements gs (into_givens gs f)
 unfolding into_givens element_of find
 givens-at xs i [] n f y h e = none-some e
@@ -118,7 +116,7 @@ givens-at xs i (g ∷ gs) n f y h e =
         givens-none gs (into (element_slots 0 (elements g)) f) y
         (givens_new (given_names (g ∷ []) ++ xs) (i + given_length g) gs w y (element-use g xs y k)).no_element
         ∙ element-at (g.title ∷ xs) (i + 2) (elements g) (given-new xs i g gs n).elements_are 0 f y k ∙ m
-        ∙ ap (λ (k : Given). 64 + place_in (elements k) y) (same-given g h q)
+        ∙ ap (λ (k : Given). 64 + place_in (elements k) y) (some_one g h q)
     on w false k q r = r q
 
 -- ---- names of elements are in use ----

@@ -25,12 +25,12 @@ use Rattle.names.proofs.PassAgreesTables.{same-name, name-refl}
 use Rattle.names.proofs.PassAgreesTypes.{type-carries}
 use Rattle.names.proofs.PassAgreesDeclared.{TypedIn, no_typed, one_typed}
 use Rattle.names.proofs.PassAgreesGivens.{Holds}
-use Rattle.names.proofs.PassAgreesParameters.{name_of}
+use Rattle.names.proofs.PassAgreesParameters.{name_of, direction-ending}
 use Rattle.table_nodes.specs.TableByNumber.{Places}
 use Rattle.table_places.specs.ResolvedTable.{Slots, slotted}
 use Rattle.table_places.specs.DossierTableByNumber.{parameter_slot, next_input, next_output, parameters_placed}
-use Rattle.search_groups.proofs.ScopePlaces.{slot_of}
-use Rattle.tables.proofs.SlotPlaces.{none-some, slot-here, slot-there, first-or_later, Named, no_named, one_named, Once, no_once, one_once, into, into-some, Slotted, Below, write}
+use Rattle.search_groups.proofs.ScopePlaces.{slot_of, slot-here, slot-there}
+use Rattle.tables.proofs.SlotPlaces.{none-some, first-or_later, Named, no_named, one_named, Once, no_once, one_once, into, into-some, Slotted, Below, write}
 use Rattle.tables.proofs.DeclaredPlaces.{group-one, variables-few}
 use Rattle.refusals.proofs.FaultLists.{append_nil-both, unless-nil}
 use Rattle.lexical.proofs.BooleanTests as tests
@@ -86,10 +86,6 @@ unfolding numbered
 numbered-once no_parameters i o = no_once
 numbered-once (one_parameter {y = x} c f g h) i o =
     one_once (later_off x h (next_input x.direction i) (next_output x.direction o)) (numbered-once h (next_input x.direction i) (next_output x.direction o))
-
-direction-ending : (c : Direction) → 2 ≤ ending_code (ending_of c)
-direction-ending inward = omega arith
-direction-ending outward = omega arith
 
 pub numbered-ended : (ps : List Parameter) (i o : ℕ) → Named (λ (y : Name). 2 ≤ ending_code y.ending) (numbered ps i o)
 unfolding numbered

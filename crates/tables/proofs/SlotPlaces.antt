@@ -14,13 +14,12 @@ use Rattle.form.specs.Codes.{Numbering, name_number}
 use Rattle.static_rules.specs.Carriers.{Variable, same_name}
 use Rattle.static_rules.specs.Scope.{element_of, place_in}
 use Rattle.names.proofs.ReachTables.{Numbered}
-use Rattle.names.proofs.TypesAgreeScope.{find-here, find-there}
 use Rattle.names.proofs.PassAgreesTables.{same-name, name-refl, changed}
 use Rattle.names.proofs.PassAgreesGivens.{Holds, entered}
 use Rattle.names.proofs.PassAgreesStates.{scope}
 use Rattle.table_nodes.specs.TableByNumber.{Places}
 use Rattle.table_places.specs.ResolvedTable.{Slots, slotted}
-use Rattle.search_groups.proofs.ScopePlaces.{slot_of, PlaceIs, PlacesShown}
+use Rattle.search_groups.proofs.ScopePlaces.{slot_of, slot-here, slot-there, PlaceIs, PlacesShown}
 
 abbrev Is : {A : Type 0} → Option A → Type 0
 Is none = ⊥
@@ -37,12 +36,6 @@ same-slot : (v w : Name × ℕ) → ◌≡◌ {A = Option (Name × ℕ)} (some v
 same-slot v w e = cc
 
 -- ---- slots as they are searched ----
-
-pub slot-here : (w : Name × ℕ) (W : Slots) (y : Name) → same_name w.0 y ≡ true → slot_of (w ∷ W) y ≡ some w
-slot-here w W y e = find-here (λ (v : Name × ℕ). same_name v.0 y) w W e
-
-pub slot-there : (w : Name × ℕ) (W : Slots) (y : Name) → same_name w.0 y ≡ false → slot_of (w ∷ W) y ≡ slot_of W y
-slot-there w W y e = find-there (λ (v : Name × ℕ). same_name v.0 y) w W e
 
 -- a slot that is found is the first, or found behind it
 pub first-or_later : (v : Name × ℕ) (W : Slots) (y : Name) (w : Name × ℕ) → slot_of (v ∷ W) y ≡ some w → {Q : Type 0}

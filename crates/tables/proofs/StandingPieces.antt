@@ -1,17 +1,18 @@
 -- Predicates patched in one behind the other: each one's table stands at its place, and their conjuncts have no more numbers than there is room.
 use mathlib.Core.Path.{◌≡◌, refl, sym, ap, ◌∙◌}
-use mathlib.Core.List.{List, [], ◌∷◌, ◌++◌, append_assoc}
-use Prim.Native.Nat.{ℕ, ◌+◌, ◌-◌, ◌≤◌}
+use mathlib.Core.List.{List, [], ◌∷◌, ◌++◌, map, append_assoc}
+use Prim.Native.Nat.{ℕ, suc, ◌+◌, ◌-◌, ◌*◌, ◌≤◌}
 use native.Mathlib.Omega.{arith}
 use native.Mathlib.Nat.{le_refl}
 use lib.ListN.{length, take, drop, length-append, length-take, length-drop}
 use lib.Seq.{length-take-le, take_at, drop_at, take-take, take-append-le, take-add}
+use Rattle.form.specs.Tree.{Given, Declaration, Parameter, Operation}
 use Rattle.form.specs.Codes.{Numbering, node, pred_codes, condition_codes}
 use Rattle.static_rules.specs.Scope.{Context}
-use Rattle.node_spans.specs.Spans.{Stands}
+use Rattle.node_spans.specs.Spans.{Stands, span}
 use Rattle.table_nodes.specs.TableWalkPromises.{patch}
 use Rattle.table_places.specs.ResolvedTable.{Slots, pred_table}
-use Rattle.table_places.specs.DossierTable.{with_predicates}
+use Rattle.table_places.specs.DossierTable.{with_predicates, type_table, with_carriers, with_parameters}
 use Rattle.search_groups.specs.Conjuncts.{conjunct_row, conjunct_rows, context_rows}
 use Rattle.search_groups.specs.GroupPromises.{Conjoin, alone, both, Standing, none_stands, one_stands}
 use Rattle.search_groups.proofs.TableLength.{pred-length}
@@ -25,6 +26,25 @@ patch-grows b t out =
     let q = length-append t (drop (b + length t) out) in
     let r = length-take b out in
     let s = length-drop (b + length t) out in
+    omega arith
+
+-- the carriers of the declared names make no array shorter
+pub carriers_grow : (gs : List Given) (q : ℕ) (ds : List Declaration) (out : List ℕ) → length out ≤ length (with_carriers gs q ds out)
+unfolding with_carriers
+carriers_grow gs q [] out = le_refl (length out)
+carriers_grow gs q (x ∷ ds) out =
+    let t : List ℕ = type_table x.type gs in
+    let h = patch-grows (q + 4) t out in
+    let g = carriers_grow gs (q + 8) ds (patch (q + 4) t out) in
+    omega arith
+
+pub parameters-grow : (gs : List Given) (spans : List ℕ) (k : ℕ) (os : List Operation) (out : List ℕ) → length out ≤ length (with_parameters gs spans k os out)
+unfolding with_parameters
+parameters-grow gs spans k [] out = le_refl (length out)
+parameters-grow gs spans k (o ∷ os) out =
+    let ds : List Declaration = map (λ (x : Parameter). x.declaration) o.parameters in
+    let h = carriers_grow gs (span spans (9 + 4 * k)) ds out in
+    let g = parameters-grow gs spans (suc k) os (with_carriers gs (span spans (9 + 4 * k)) ds out) in
     omega arith
 
 -- what stands before it is kept

@@ -1,44 +1,25 @@
 -- The tables of a dossier's predicates stand at their places in the whole table, and the rows of their conjuncts fit into an array of its length.
 use mathlib.Core.Path.{◌≡◌, refl, sym, ap, ◌∙◌, subst}
-use mathlib.Core.List.{List, [], ◌∷◌, ◌++◌, map, append-nil}
+use mathlib.Core.List.{List, [], ◌∷◌, ◌++◌, append-nil}
 use Prim.Native.Nat.{ℕ, suc, ◌+◌, ◌*◌, ◌≤◌}
 use native.Mathlib.Omega.{arith}
 use native.Mathlib.Nat.{le_refl}
 use lib.ListN.{length, take, length-append}
 use lib.Seq.{length-take-le}
-use Rattle.form.specs.Tree.{Letters, Given, Declaration, declarations, Parameter, State, Operation, Dossier}
+use Rattle.form.specs.Tree.{Letters, Given, declarations, Operation, Dossier}
 use Rattle.form.specs.Headings.{abstract_at, concrete_at, ainit_at, cinit_at, retrieve_at, operations_at, operation_length}
-use Rattle.form.specs.Codes.{Numbering, declaration_codes, parameter_codes, condition_codes, state_codes, operation_codes, abstractly_at, pred_width, dossier_codes}
+use Rattle.form.specs.Codes.{Numbering, declaration_codes, parameter_codes, condition_codes, operation_codes, abstractly_at, pred_width, dossier_codes}
 use Rattle.static_rules.specs.Scope.{contexts, operation_contexts}
 use Rattle.node_spans.specs.ParserSections.{abstract_from, concrete_from, ainit_from, cinit_from, retrieve_from, operations_from}
 use Rattle.node_spans.proofs.ParserItemNodes.{Split, split-first, split-next, split_at, split-length}
 use Rattle.node_spans.proofs.ParserPartPlaces.{at-operations}
 use Rattle.node_spans.specs.Spans.{operation_spans, spans_of, span, predicate_at}
 use Rattle.node_spans.proofs.Structure.{split-move}
-use Rattle.table_nodes.specs.TableWalkPromises.{patch}
-use Rattle.table_places.specs.DossierTable.{operation_slots, slots_of, operation_starts, starts_of, type_table, with_carriers, with_parameters, declared, table_of}
+use Rattle.table_places.specs.DossierTable.{operation_slots, slots_of, operation_starts, starts_of, with_carriers, declared, table_of}
 use Rattle.search_groups.specs.Conjuncts.{context_rows}
 use Rattle.search_groups.specs.GroupPromises.{Standing}
-use Rattle.tables.proofs.StandingPieces.{patch-grows, Rising, risen, rise, all-stand, rows_fit}
-
--- the carriers of the declared names make no array shorter
-carriers_grow : (gs : List Given) (q : ℕ) (ds : List Declaration) (out : List ℕ) → length out ≤ length (with_carriers gs q ds out)
-unfolding with_carriers
-carriers_grow gs q [] out = le_refl (length out)
-carriers_grow gs q (x ∷ ds) out =
-    let t : List ℕ = type_table x.type gs in
-    let h = patch-grows (q + 4) t out in
-    let g = carriers_grow gs (q + 8) ds (patch (q + 4) t out) in
-    omega arith
-
-parameters-grow : (gs : List Given) (spans : List ℕ) (k : ℕ) (os : List Operation) (out : List ℕ) → length out ≤ length (with_parameters gs spans k os out)
-unfolding with_parameters
-parameters-grow gs spans k [] out = le_refl (length out)
-parameters-grow gs spans k (o ∷ os) out =
-    let ds : List Declaration = map (λ (x : Parameter). x.declaration) o.parameters in
-    let h = carriers_grow gs (span spans (9 + 4 * k)) ds out in
-    let g = parameters-grow gs spans (suc k) os (with_carriers gs (span spans (9 + 4 * k)) ds out) in
-    omega arith
+use Rattle.tables.proofs.StandingPieces.{carriers_grow, parameters-grow, Rising, risen, rise, all-stand, rows_fit}
+use Rattle.node_spans.proofs.DeclaredLengths.{state-long}
 
 declared-grows : (d : Dossier) (ρ : Numbering) (out : List ℕ) → length out ≤ length (declared d ρ out)
 unfolding declared
@@ -77,14 +58,6 @@ operations-rise {end} {spans} d ρ n k i j xs (o ∷ os) y s h =
     rise n b e m ρ _ _ _ _ _ _ (omega arith) (omega arith) refl
     (rise e e f (suc m + pred_width o.abstractly) ρ _ _ _ _ _ _ (omega arith) (omega arith) refl
     (operations-rise d ρ f (suc k) (i + operation_length o) (j + operation_length o) (o.title ∷ xs) os y (split-move (omega arith) s₄) (omega arith)))
-
--- a state's nodes: its heading, its declarations, its predicate
-state-long : (i : ℕ) (s : State) (ρ : Numbering)
-    → length (state_codes i s ρ) ≡ 4 + length (declaration_codes (suc i) (declarations s) ρ) + length (condition_codes (predicate_at i s) s.predicate ρ)
-unfolding state_codes
-state-long i s ρ =
-    let l = length-append (declaration_codes (suc i) (declarations s) ρ) (condition_codes (predicate_at i s) s.predicate ρ) in
-    omega arith
 
 -- the predicates of a dossier stand one behind the other among its nodes
 dossier-rises : (d : Dossier) (ρ : Numbering) → Rising (abstract_from d ρ) (length (dossier_codes d ρ)) (contexts d) (slots_of d) (starts_of d ρ)

@@ -1,4 +1,5 @@
 -- The entries of a whole dossier's table tell the slots of both states, plain and primed, and the elements; and still tell them once parameters are written.
+-- Each list of slots has a field of its own: which entries are written behind it differs from list to list, and so does its chain of `kept`.
 use mathlib.Core.Path.{◌≡◌}
 use mathlib.Core.Bool.{true}
 use mathlib.Core.List.{List, [], ◌∷◌, ◌++◌}
@@ -15,7 +16,7 @@ use Rattle.static_rules.specs.Names.{new_name, given_faults, parameter_faults, o
 use Rattle.names.proofs.ReachTables.{Numbered}
 use Rattle.names.proofs.PassAgreesUse.{in_use, use-left, use-right}
 use Rattle.names.proofs.PassAgreesGivens.{Holds}
-use Rattle.names.proofs.FaultlessParts as parts
+use Rattle.static_rules.proofs.Faultless as parts
 use Rattle.names.proofs.PassAgrees.{DossierIn}
 use Rattle.table_nodes.specs.TableByNumber.{Places}
 use Rattle.table_places.specs.ResolvedTable.{Slots, slotted}

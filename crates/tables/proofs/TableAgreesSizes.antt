@@ -1,12 +1,11 @@
 -- The sizes that nodes carry: by the number of a term's type, and by the given sets that its type is over.
-use mathlib.Core.Path.{◌≡◌, refl, ap, ap₂, ◌∙◌, sym}
-use mathlib.Core.Bool.{Bool, true, false, ◌&&◌, cond}
+use mathlib.Core.Path.{◌≡◌, refl, ap, ◌∙◌, sym}
+use mathlib.Core.Bool.{Bool, true, false, cond}
 use mathlib.Core.List.{List, [], map}
 use mathlib.Core.Option.{Option, none, some}
 use Prim.Native.Nat.{ℕ, ◌+◌, ◌-◌, ◌*◌, ◌/◌, ◌%◌, ◌<◌}
 use native.Mathlib.Omega.{arith}
 use lib.ListN.{get_or}
-use borrow.Author.Tests.{le-leb, lt-ltb}
 use Rattle.refusals.specs.Refusals.{least}
 use Rattle.form.specs.Tree.{Letters, Range, Domain, given_set, range, Given, Term}
 use Rattle.form.specs.Codes.{Numbering, node, end_number, end_width}
@@ -15,13 +14,13 @@ use Rattle.static_rules.specs.Types as ty
 use Rattle.static_rules.specs.Types.{Ty, has}
 use Rattle.static_rules.specs.Scope.{Scope}
 use Rattle.static_rules.specs.Names.{range_faults, domain_faults, judge_term}
-use Rattle.type_rules.specs.TypesByNumber.{Names, Sizes, is_given, key, unless_key, least_key, range_fits, size_in, term_kind}
+use Rattle.type_rules.specs.TypesByNumber.{Names, Sizes, key, unless_key, least_key, range_fits, size_in, term_kind}
 use Rattle.names.proofs.ReachTables.{index_of, titled, type_code, Known, known_number, known_element, known_set, known_pairs, Numbered, Shows, RangeIn, DomainIn, TermIn}
 use Rattle.names.proofs.TypesAgree.{judged-term}
 use Rattle.names.proofs.TypesAgreeTypes.{ElementType, element_type, element-type, index_in, index-few, is-pairs, is-element}
 use Rattle.names.proofs.TypesAgreeRanges.{range-least}
 use Rattle.names.proofs.TypesAgreeScope.{found, titled-finds}
-use Rattle.names.proofs.TypesAgreeBinders.{View, no_given, one_given, given-view}
+use Rattle.names.proofs.TypesAgreeBinders.{View, no_given, one_given, given-view, given_yes}
 use Rattle.table_nodes.specs.TableByNumber as table
 use Rattle.table_places.specs.DossierTableByNumber.{given_index}
 use Rattle.table_places.specs.ResolvedTable as resolved
@@ -49,10 +48,6 @@ side_of Γ k t = cond (has t ty.is_pairs) (get_or (over_sizes Γ.givens t) k 0) 
 
 abbrev over_of : Scope → Ty → ℕ
 over_of Γ t = get_or (over_sizes Γ.givens t) 0 0
-
-given_yes : (k n : ℕ) → n < 8 → k ≡ 8 + n → is_given k ≡ true
-unfolding is_given
-given_yes k n h e = ap₂ ◌&&◌ (le-leb 8 k (omega arith)) (lt-ltb k 16 (omega arith))
 
 -- a name that is a given set's, or none's
 pub view-size : {gs : List Given} {z : Sizes} {l : Letters} {o : Option Given} {k : ℕ} → View gs z l o k → table.given_size z k ≡ size_found o

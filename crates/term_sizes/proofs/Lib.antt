@@ -1,9 +1,6 @@
--- Sizes and bindings by numbers are those of the definitions.
--- The walk for sizes.
+-- The walk for sizes: what it finds is what SizesByNumber says.
 pub mod SizeWalkNumbers
 pub mod SizeWalk
 pub mod FrontSizes
 pub mod SizeWalkTerms
 pub mod SizeWalkPreds
-
--- The pass over a whole dossier.

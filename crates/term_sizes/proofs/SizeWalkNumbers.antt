@@ -2,17 +2,22 @@
 use mathlib.Core.Path.{◌≡◌, refl, sym, ap, ap₂, ◌∙◌}
 use mathlib.Core.Bool.{Bool, true, false, cond}
 use Prim.Native.Nat.{ℕ, zero, suc, ◌+◌, ◌*◌, ◌≤◌, ◌<◌}
+use native.Mathlib.Decide.{dec_lt}
 use native.Mathlib.Omega.{arith}
 use native.Mathlib.Nat.{mul-le-mul}
-use lib.Dec.{eqb, leb, ltb}
-use borrow.Author.Tests.{leb-true, eqb-true, ne_eqb}
+use lib.Dec.{leb, ltb}
+use borrow.Author.Tests.{leb-true, ne_eqb}
 use Rattle.lexical.specs.Kinds.{code_of}
 use Rattle.form.specs.Tree.{Prefix, negate, size, dom, ran, Operator, plus, minus, union, without, times, inter, Division, quotient, remainder}
 use Rattle.form.specs.Written.{prefix_kind, operator_kind}
 use Rattle.form.specs.Codes.{sign_of, division_number}
 use Rattle.type_rules.specs.TypesByNumber.{key, unless_key, lesser, judged_key}
-use Rattle.names.proofs.TypesAgreeLeast.{lesser-zero}
+use Rattle.names.proofs.TypesAgreeLeast.{lesser-zero, positive}
 use Rattle.term_sizes.specs.SizesByNumber.{prefix_bound, operator_bound, division_bound}
+
+-- one of two numbers, by a law for each
+pub either : {P : Type 0} {k m : ℕ} → m ≤ k → k ≤ suc m → (k ≡ m → P) → (k ≡ suc m → P) → P
+either {k = k} {m = m} lo hi f g = elim (dec_lt m k) [ yes l ↦ g (omega arith) | no n ↦ f (omega arith) ]
 
 -- ---- by the codes of symbols ----
 
@@ -37,23 +42,14 @@ side-bound o a h g size e = absurd (g (sym e))
 side-bound o a h g dom e = refl
 side-bound o a h g ran e = refl
 
-pub plus-bound : (o a b : ℕ) → o ≡ 28 → (p : Operator) → code_of (operator_kind p) ≡ o → a + b ≡ operator_bound p a b
+pub sum-bound : (o a b : ℕ) → 28 ≤ o → o ≤ 29 → (p : Operator) → code_of (operator_kind p) ≡ o → a + b ≡ operator_bound p a b
 unfolding code_of operator_bound
-plus-bound o a b h plus e = refl
-plus-bound o a b h minus e = absurd (omega arith)
-plus-bound o a b h union e = absurd (omega arith)
-plus-bound o a b h without e = absurd (omega arith)
-plus-bound o a b h times e = absurd (omega arith)
-plus-bound o a b h inter e = absurd (omega arith)
-
-pub minus-bound : (o a b : ℕ) → o ≡ 29 → (p : Operator) → code_of (operator_kind p) ≡ o → a + b ≡ operator_bound p a b
-unfolding code_of operator_bound
-minus-bound o a b h plus e = absurd (omega arith)
-minus-bound o a b h minus e = refl
-minus-bound o a b h union e = absurd (omega arith)
-minus-bound o a b h without e = absurd (omega arith)
-minus-bound o a b h times e = absurd (omega arith)
-minus-bound o a b h inter e = absurd (omega arith)
+sum-bound o a b lo hi plus e = refl
+sum-bound o a b lo hi minus e = refl
+sum-bound o a b lo hi union e = absurd (omega arith)
+sum-bound o a b lo hi without e = absurd (omega arith)
+sum-bound o a b lo hi times e = absurd (omega arith)
+sum-bound o a b lo hi inter e = absurd (omega arith)
 
 pub times-bound : (o a b : ℕ) → o ≡ 30 → (p : Operator) → code_of (operator_kind p) ≡ o → a * b ≡ operator_bound p a b
 unfolding code_of operator_bound
@@ -86,14 +82,11 @@ remainder-bound o n a h quotient true e = absurd (omega arith)
 remainder-bound o n a h quotient false e = absurd (omega arith)
 remainder-bound o n a h remainder s e = refl
 
-pub product-fits : (a b : ℕ) → a ≤ 2147483647 → b ≤ 2147483647 → a * b < 18446744073709551616
+pub product-fits : (a b : ℕ) → a ≤ 4294967295 → b ≤ 4294967295 → a * b < 18446744073709551616
 product-fits a b h g =
-    let w : a * b ≤ 2147483647 * 2147483647 = mul-le-mul {n₁ = a} {m₁ = b} {n₂ = 2147483647} {m₂ = 2147483647} (omega arith) (omega arith) in omega arith
+    let w : a * b ≤ 4294967295 * 4294967295 = mul-le-mul {n₁ = a} {m₁ = b} {n₂ = 4294967295} {m₂ = 4294967295} (omega arith) (omega arith) in omega arith
 
 -- ---- faults, and sizes where there is none ----
-
-positive : (a : ℕ) → 1 ≤ a → a ≡ 0 → ⊥
-positive a h e = omega arith
 
 lesser-both : (a b : ℕ) → 1 ≤ a → 1 ≤ b → lesser a b ≡ cond (ltb b a) b a
 unfolding lesser
@@ -131,21 +124,3 @@ over-seen n k w i m p wq mq nq = ap₂ (λ (j x : ℕ). judged_key (leb n 214748
     on zero h = ap (λ (x : ℕ). unless_key (leb x 2147483647) (key i 13)) (h refl)
     on (suc p) h =
         judged-some (leb n 2147483647) (key i 13) (suc p) (omega arith) ∙ sym (judged-some (leb k 2147483647) (key i 13) (suc p) (omega arith))
-
--- the size that is kept is small
-pub unless-small : (f n b : ℕ) → n ≤ 2147483647 → b ≡ cond (eqb f 0) n 0 → b ≤ 2147483647
-unless-small f n b h e = on (eqb f 0) e
-  where
-    on : (c : Bool) → b ≡ cond c n 0 → b ≤ 2147483647
-    on true e = omega arith
-    on false e = omega arith
-
-pub over-small : (f n i m b : ℕ) → f ≡ judged_key (leb n 2147483647) (key i 13) m → b ≡ cond (eqb f 0) n 0 → b ≤ 2147483647
-over-small f n i m b h e = on (eqb f 0) refl e
-  where
-    on : (c : Bool) → eqb f 0 ≡ c → b ≡ cond c n 0 → b ≤ 2147483647
-    on true q e = let w = (over_none n i m (sym h ∙ eqb-true f 0 q)).1 in omega arith
-    on false q e = omega arith
-
-pub unless-none : (f n b : ℕ) → b ≡ cond (eqb f 0) n 0 → f ≡ 0 → b ≡ n
-unless-none f n b e h = e ∙ ap (λ (x : ℕ). cond (eqb x 0) n 0) h

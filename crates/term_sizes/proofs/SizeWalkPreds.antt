@@ -14,8 +14,10 @@ use Rattle.type_rules.specs.declared.Node.{Node}
 use Rattle.type_rules.specs.TypesByNumber.{fault_key, lesser, NodeAt}
 use Rattle.typing.proofs.LastNodes.{last-node, one-part, two-parts, three-parts, middle}
 use Rattle.term_sizes.specs.declared.Sized.{Sized}
+use Rattle.term_sizes.specs.declared.sizes.Over.{Over}
 use Rattle.term_sizes.specs.SizesByNumber.{Bounds, domain_bound, term_over, pred_over}
 use Rattle.term_sizes.specs.SizeWalkPromises.{DomainSized, TermSized, PairSized, PredSized, BoundSized}
+use Rattle.term_sizes.proofs.SizeWalkNumbers.{either}
 use Rattle.term_sizes.proofs.SizeWalk.{pred-from}
 
 module _ (code : List ℕ) (e : ℕ) (l : e ≤ length code) (S : Bounds) where
@@ -46,30 +48,28 @@ module _ (code : List ℕ) (e : ℕ) (l : e ≤ length code) (S : Bounds) where
       record { fault_is = fq ∙ ap₂ lesser s₁.fault_is s₂.fault_is; bound_is = λ z. bq; start_is = sq ∙ s₁.start_is })
 
   -- t = u, t in u, t in a..b, t |-> u in v
-  pub pred-compared : (U : Bounds) (v : Sized) → PairSized code (e - 4) S U v → get_or code (e - 4 + 3) 0 ≡ 4 → PredSized code e S U v
+  pub pred-pair : (U : Bounds) (v : Sized) → PairSized code (e - 4) S U v → 4 ≤ get_or code (e - 4 + 3) 0 → get_or code (e - 4 + 3) 0 ≤ 5 → PredSized code e S U v
   unfolding term_codes term_over
-  pred-compared U v hv q = pred-from code e l S 4 U v (let f = hv.falls in omega arith) hv.kept q
+  pred-pair U v hv lo hi = either lo hi
+      (λ q. pred-from code e l S 4 U v (let f = hv.falls in omega arith) hv.kept q
       (λ o t₁ t₂ i ρ base y.
       let j : ℕ = suc (i + term_width t₁) in
-      hv.right t₁ t₂ i j ρ base (two-parts code e l base (term_codes t₁ i ρ) (term_codes t₂ j ρ) 4 (i + term_width t₁) (code_of (comparison_kind o)) 0 y).before)
-
-  pub pred-member : (U : Bounds) (v : Sized) → PairSized code (e - 4) S U v → get_or code (e - 4 + 3) 0 ≡ 5 → PredSized code e S U v
-  unfolding term_codes term_over
-  pred-member U v hv q = pred-from code e l S 5 U v (let f = hv.falls in omega arith) hv.kept q
+      hv.right t₁ t₂ i j ρ base (two-parts code e l base (term_codes t₁ i ρ) (term_codes t₂ j ρ) 4 (i + term_width t₁) (code_of (comparison_kind o)) 0 y).before))
+      (λ q. pred-from code e l S 5 U v (let f = hv.falls in omega arith) hv.kept q
       (λ o t₁ t₂ i ρ base y.
       let j : ℕ = suc (i + term_width t₁) in
-      hv.right t₁ t₂ i j ρ base (two-parts code e l base (term_codes t₁ i ρ) (term_codes t₂ j ρ) 5 (i + term_width t₁) (code_of (membership_kind o)) 0 y).before)
+      hv.right t₁ t₂ i j ρ base (two-parts code e l base (term_codes t₁ i ρ) (term_codes t₂ j ρ) 5 (i + term_width t₁) (code_of (membership_kind o)) 0 y).before))
 
-  pub pred-within : (W : Bounds) (v d r : Sized) → get_or code (e - 4 + 3) 0 ≡ 6 → DomainSized code (e - 4) d → TermSized code d.start S W v
+  pub pred-within : (W : Bounds) (d : Over) (v r : Sized) → get_or code (e - 4 + 3) 0 ≡ 6 → DomainSized code (e - 4) d → TermSized code d.start S W v
       → r.bound ≡ 0 → fault_key r.fault ≡ fault_key v.fault → r.start ≡ v.start → PredSized code e S W r
   unfolding term_codes term_over
-  pred-within W v d r q hd hv bq fq sq =
+  pred-within W d v r q hd hv bq fq sq =
       pred-from code e l S 6 W r (let f = hd.falls in let g = hv.falls in omega arith) hv.kept q
       (λ o t c i ρ base y.
       let j : ℕ = suc (i + term_width t) in
       let h = two-parts code e l base (term_codes t i ρ) (range_codes c j) 6 (i + term_width t) (code_of (membership_kind o)) 0 y in
       let s₂ = hd.right (range c) j ρ (base ++ term_codes t i ρ) h.before in
-      let s₁ = hv.right t i ρ base (middle code (e - 4) d.start (base ++ term_codes t i ρ) (range_codes c j) h.before hd.falls s₂.start_is) in
+      let s₁ = hv.right t i ρ base (middle code (e - 4) d.start (base ++ term_codes t i ρ) (range_codes c j) h.before hd.falls s₂.1) in
       record { fault_is = fq ∙ s₁.fault_is; bound_is = λ z. bq; start_is = sq ∙ s₁.start_is })
 
   pub pred-related : (U W : Bounds) (t v r : Sized) → get_or code (e - 4 + 3) 0 ≡ 7 → TermSized code (e - 4) S U v → PairSized code v.start U W t
@@ -95,8 +95,5 @@ module _ (code : List ℕ) (e : ℕ) (l : e ≤ length code) (S : Bounds) where
       let j : ℕ = i + 5 + domain_width D in
       let h = two-parts code e l base (pred_codes P j ρ) (domain_codes D (i + 4) ρ) 8 (suc i) (number_of_name ρ y₁ no_ending) (code_of (quantifier_kind c)) y in
       let sB = hb.right D P (i + 4) j ρ base h.before in
-      record {
-        fault_is = sB.fault_is ∙ ap (λ (x : ℕ). pred_over P (set S x (domain_bound D)) ρ j) (hn.first_is ∙ h.is_first);
-        bound_is = λ z. hb.bare;
-        start_is = sB.start_is;
-      })
+      let over = ap (λ (x : ℕ). pred_over P (set S x (domain_bound D)) ρ j) (hn.first_is ∙ h.is_first) in
+      record { fault_is = sB.fault_is ∙ over; bound_is = λ z. sB.bound_is (over ∙ z); start_is = sB.start_is })

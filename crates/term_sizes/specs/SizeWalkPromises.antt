@@ -7,6 +7,7 @@ use Rattle.form.specs.Codes.{Numbering, sign_of, division_number, domain_codes, 
 use Rattle.type_rules.specs.TypesByNumber.{fault_key, lesser}
 use Rattle.term_sizes.specs.SizesByNumber.{Bounds, prefix_bound, operator_bound, division_bound, domain_bound, term_bound, term_over, items_over, pairs_over, pred_over}
 use Rattle.term_sizes.specs.declared.Sized.{Sized}
+use Rattle.term_sizes.specs.declared.sizes.Over.{Over}
 use Rattle.type_rules.specs.declared.Node.{Node}
 
 -- the code tells prefixes and operators by their symbols' codes
@@ -26,33 +27,28 @@ pub record Saw (r : Sized) (n f s : ℕ) : Type 0 where
   pub bound_is : f ≡ 0 → r.bound ≡ n
   pub start_is : r.start ≡ s
 
-pub record DomainSized (code : List ℕ) (e : ℕ) (r : Sized) : Type 0 where
+pub record DomainSized (code : List ℕ) (e : ℕ) (r : Over) : Type 0 where
   pub falls : r.start ≤ e
-  pub small : r.bound ≤ 65535
-  pub right : (d : Domain) (i : ℕ) (ρ : Numbering) (base : List ℕ) → take e code ≡ base ++ domain_codes d i ρ → Saw r (domain_bound d) 0 (length base)
+  pub right : (d : Domain) (i : ℕ) (ρ : Numbering) (base : List ℕ) → take e code ≡ base ++ domain_codes d i ρ → (r.bound ≡ domain_bound d) × (r.start ≡ length base)
 
 pub record TermSized (code : List ℕ) (e : ℕ) (S U : Bounds) (r : Sized) : Type 0 where
   pub falls : r.start ≤ e
-  pub small : r.bound ≤ 2147483647
   pub kept : U ≡ S
   pub right : (t : Term) (i : ℕ) (ρ : Numbering) (base : List ℕ) → take e code ≡ base ++ term_codes t i ρ → Saw r (term_bound t S ρ) (term_over t S ρ i) (length base)
 
 pub record ItemsSized (code : List ℕ) (e : ℕ) (S U : Bounds) (r : Sized) : Type 0 where
   pub falls : r.start ≤ e
-  pub bare : r.bound ≡ 0
   pub kept : U ≡ S
   pub right : (ts : Items) (i : ℕ) (ρ : Numbering) (base : List ℕ) → take e code ≡ base ++ items_codes ts i ρ → Saw r 0 (items_over ts S ρ i) (length base)
 
 pub record PairSized (code : List ℕ) (e : ℕ) (S U : Bounds) (r : Sized) : Type 0 where
   pub falls : r.start ≤ e
-  pub bare : r.bound ≡ 0
   pub kept : U ≡ S
   pub right : (t u : Term) (i j : ℕ) (ρ : Numbering) (base : List ℕ) → take e code ≡ (base ++ term_codes t i ρ) ++ term_codes u j ρ
       → Saw r 0 (lesser (term_over t S ρ i) (term_over u S ρ j)) (length base)
 
 pub record PairsSized (code : List ℕ) (e : ℕ) (S U : Bounds) (r : Sized) : Type 0 where
   pub falls : r.start ≤ e
-  pub bare : r.bound ≡ 0
   pub kept : U ≡ S
   pub right : (ts : Pairs) (i : ℕ) (ρ : Numbering) (base : List ℕ) → take e code ≡ base ++ pairs_codes ts i ρ → Saw r 0 (pairs_over ts S ρ i) (length base)
 
@@ -64,7 +60,6 @@ pub record PredSized (code : List ℕ) (e : ℕ) (S U : Bounds) (r : Sized) : Ty
 -- a name is bound, that of the node n, for a predicate with its domain behind it
 pub record BoundSized (code : List ℕ) (e : ℕ) (n : Node) (S U : Bounds) (r : Sized) : Type 0 where
   pub falls : r.start ≤ e
-  pub bare : r.bound ≡ 0
   pub kept : U ≡ S
   pub right : (d : Domain) (p : Pred) (i j : ℕ) (ρ : Numbering) (base : List ℕ) → take e code ≡ (base ++ pred_codes p j ρ) ++ domain_codes d i ρ
       → Saw r 0 (pred_over p (set S n.a (domain_bound d)) ρ j) (length base)

@@ -1,7 +1,7 @@
 // The walk over the nodes of terms and predicates, from their ends, with the size of each name in a table. One cycle of functions, in one file.
 // Each function reads the tree in which its nodes end; where a part ends is known only behind the one that follows it.
-ghost use Rattle.std.specs.Prelude.{◌≡◌, cond, ◌+◌, ◌≤◌, eqb, length};
-ghost use Rattle.type_rules.specs.TypesByNumber.{fault_key};
+ghost use Rattle.std.specs.Prelude.{◌≡◌, ◌+◌, length};
+ghost use Rattle.type_rules.specs.TypesByNumber.{fault_key, lesser};
 ghost use Rattle.term_sizes.specs.SizesByNumber.{absolute};
 ghost use Rattle.term_sizes.specs.SizeWalkPromises.{PrefixBound, OperatorBound, DivisionBound, DomainSized, TermSized, ItemsSized, PairSized, PairsSized, PredSized, BoundSized};
 ghost use Rattle.typing.specs.EndedNodes.{ended};
@@ -10,60 +10,48 @@ ghost use Rattle.type_rules.specs.declared.Node.{Node};
 use crate::Sized;
 use form::{node, operator_codes, shapes};
 use lexical::bounds::{COUNT_SIZE, LARGEST_NUMBER, LARGEST_SIZE};
-use refusals::{Fault, Refusal};
+use refusals::Refusal;
 use type_rules::Node;
 use type_rules::kinds::{judge, last_node, lesser_of, look, put};
 
 // Prefixes and operators by the code of their symbol. What is not a number has the size 0.
-fn prefix_bound(o: u16, a: u64) -> u64
-    requires { a ≤ 2147483647 }
-    ensures { PrefixBound o a result × (result ≤ 2147483647) }
+fn prefix_bound(o: u16, a: u32) -> u32
+    ensures { PrefixBound o a result }
 {
     match o {
         operator_codes::DASH => a,
-        operator_codes::SIZE => COUNT_SIZE,
+        operator_codes::SIZE => COUNT_SIZE as u32,
         _ => 0,
     }
 }
 
-fn operator_bound(o: u16, a: u64, b: u64) -> u64
-    requires { (a ≤ 2147483647) × (b ≤ 2147483647) }
+fn operator_bound(o: u16, a: u32, b: u32) -> u64
     ensures { OperatorBound o a b result }
 {
+    let a = u64::from(a);
+    let b = u64::from(b);
     match o {
-        operator_codes::PLUS => a + b,
-        operator_codes::DASH => a + b,
+        operator_codes::PLUS | operator_codes::DASH => a + b,
         operator_codes::TIMES => a * b,
         _ => 0,
     }
 }
 
 // The size of t div n, of t mod n.
-fn division_bound(b: u16, a: u16, t: u64) -> u64
-    requires { t ≤ 2147483647 }
-    ensures { DivisionBound b a t result × (result ≤ 2147483647) }
+fn division_bound(b: u16, a: u16, t: u32) -> u32
+    ensures { DivisionBound b a t result }
 {
     if b < shapes::REMAINDER {
         return t;
     }
-    u64::from(a)
+    u32::from(a)
 }
 
 // The absolute value of an end of a range, which stands with the largest number added.
-pub fn absolute_of(a: u16) -> u64
-    ensures { (result ≡ absolute a) × (result ≤ 65535) }
+pub fn absolute_of(a: u16) -> u16
+    ensures { result ≡ absolute a }
 {
-    u64::from(a.abs_diff(LARGEST_NUMBER))
-}
-
-// The size, where there is no fault.
-fn unless_over(fault: Option<Fault>, n: u64) -> u64
-    ensures { result ≡ cond (eqb (fault_key fault) 0) n 0 }
-{
-    match fault {
-        None => n,
-        Some(_) => 0,
-    }
+    a.abs_diff(LARGEST_NUMBER)
 }
 
 // No size and no fault, at `at`; 0 says that no nodes of a tree end.
@@ -79,24 +67,41 @@ fn bare(at: usize) -> Sized
     }
 }
 
+// Two parts, the first in front, that are no number together.
+fn both(t: Sized, u: Sized) -> Sized
+    ensures { (result.bound ≡ 0) × (fault_key result.fault ≡ lesser (fault_key t.fault) (fault_key u.fault)) × (result.start ≡ t.start) }
+{
+    Sized {
+        bound: 0,
+        fault: lesser_of(t.fault, u.fault),
+        ..t
+    }
+}
+
+// What a name is bound over, which has no fault: its size, and where its node begins.
+#[derive(Clone, Copy)]
+struct Over {
+    bound: u16,
+    start: usize,
+}
+
 // What a name is bound over: the last node.
-fn domain(code: &[u16]) -> Sized
+fn domain(code: &[u16]) -> Over
     ensures { DomainSized code.now (length code.now) result }
 {
     if code.len() < node::SIZE {
-        return bare(0);
+        return Over { bound: 0, start: 0 };
     }
-    let at = code.len() - node::SIZE;
+    let start = code.len() - node::SIZE;
     let n = last_node(code);
-    if code[at + node::SHAPE] == shapes::SET {
-        return bare(at);
+    if code[start + node::SHAPE] == shapes::SET {
+        return Over { bound: 0, start };
     }
     let a = absolute_of(n.a);
     let b = absolute_of(n.b);
-    Sized {
+    Over {
         bound: a.max(b),
-        fault: None,
-        start: at,
+        start,
     }
 }
 
@@ -120,8 +125,7 @@ fn term(code: &[u16], bounds: &mut [u16]) -> Sized
         shapes::SUCH => bound(front, n, bounds),
         shapes::LISTED => items(front, bounds),
         shapes::PAIRS => pairs(front, bounds),
-        shapes::EMPTY_SET => bare(at),
-        shapes::EMPTY_PAIRS => bare(at),
+        shapes::EMPTY_SET | shapes::EMPTY_PAIRS => bare(at),
         _ => bare(0),
     }
 }
@@ -131,7 +135,7 @@ fn number(front: &[u16], n: Node, bounds: &[u16]) -> Sized
     ensures { TermSized (ended front.now 1 n) (length front.now + 4) bounds.now bounds.now result }
 {
     Sized {
-        bound: u64::from(n.a),
+        bound: u32::from(n.a),
         fault: None,
         start: front.len(),
     }
@@ -143,7 +147,7 @@ fn named(front: &[u16], n: Node, bounds: &[u16]) -> Sized
 {
     let e = look(bounds, usize::from(n.a));
     Sized {
-        bound: u64::from(e),
+        bound: u32::from(e),
         fault: None,
         start: front.len(),
     }
@@ -155,11 +159,9 @@ fn prefixed(front: &[u16], n: Node, bounds: &mut [u16]) -> Sized
     ensures { TermSized (ended front.now 3 n) (length front.now + 4) bounds.old bounds.new result }
 {
     let t = term(front, bounds);
-    let m = prefix_bound(n.a, t.bound);
     Sized {
-        bound: unless_over(t.fault, m),
-        fault: t.fault,
-        start: t.start,
+        bound: prefix_bound(n.a, t.bound),
+        ..t
     }
 }
 
@@ -169,11 +171,9 @@ fn divided(front: &[u16], n: Node, bounds: &mut [u16]) -> Sized
     ensures { TermSized (ended front.now 4 n) (length front.now + 4) bounds.old bounds.new result }
 {
     let t = term(front, bounds);
-    let m = division_bound(n.b, n.a, t.bound);
     Sized {
-        bound: unless_over(t.fault, m),
-        fault: t.fault,
-        start: t.start,
+        bound: division_bound(n.b, n.a, t.bound),
+        ..t
     }
 }
 
@@ -188,7 +188,7 @@ fn operated(front: &[u16], n: Node, bounds: &mut [u16]) -> Sized
     let parts = lesser_of(t.fault, u.fault);
     let fault = judge(m <= LARGEST_SIZE, n.place, Refusal::LargeSize, parts);
     Sized {
-        bound: unless_over(fault, m),
+        bound: m.min(LARGEST_SIZE) as u32,
         fault,
         start: t.start,
     }
@@ -203,14 +203,10 @@ fn bound(front: &[u16], n: Node, bounds: &mut [u16]) -> Sized
     let x = usize::from(n.a);
     let d = domain(front);
     let was = look(bounds, x);
-    put(bounds, x, d.bound as u16);
+    put(bounds, x, d.bound);
     let p = pred(&front[..d.start], bounds);
     put(bounds, x, was);
-    Sized {
-        bound: 0,
-        fault: p.fault,
-        start: p.start,
-    }
+    p
 }
 
 // The terms of a brace, which is no number.
@@ -223,21 +219,14 @@ fn items(code: &[u16], bounds: &mut [u16]) -> Sized
     }
     let at = code.len() - node::SIZE;
     if code[at + node::SHAPE] == shapes::LAST {
-        let only = term(&code[..at], bounds);
         return Sized {
             bound: 0,
-            fault: only.fault,
-            start: only.start,
+            ..term(&code[..at], bounds)
         };
     }
     let l = items(&code[..at], bounds);
     let t = term(&code[..l.start], bounds);
-    let fault = lesser_of(t.fault, l.fault);
-    Sized {
-        bound: 0,
-        fault,
-        start: t.start,
-    }
+    both(t, l)
 }
 
 // The pairs of a brace, which is no number; the last two terms before the node of the last pair.
@@ -256,12 +245,7 @@ fn pairs(code: &[u16], bounds: &mut [u16]) -> Sized
     }
     let l = pairs(&code[..at], bounds);
     let t = pair(&code[..l.start], bounds);
-    let fault = lesser_of(t.fault, l.fault);
-    Sized {
-        bound: 0,
-        fault,
-        start: t.start,
-    }
+    both(t, l)
 }
 
 // Two terms, one behind the other.
@@ -271,12 +255,7 @@ fn pair(code: &[u16], bounds: &mut [u16]) -> Sized
 {
     let u = term(code, bounds);
     let t = term(&code[..u.start], bounds);
-    let fault = lesser_of(t.fault, u.fault);
-    Sized {
-        bound: 0,
-        fault,
-        start: t.start,
-    }
+    both(t, u)
 }
 
 // The predicate whose nodes are the last.
@@ -294,8 +273,7 @@ pub fn pred(code: &[u16], bounds: &mut [u16]) -> Sized
         shapes::TRUTH => bare(at),
         shapes::NEGATION => pred(front, bounds),
         shapes::CONNECTED => connected(front, bounds),
-        shapes::COMPARED => pair(front, bounds),
-        shapes::MEMBER => pair(front, bounds),
+        shapes::COMPARED | shapes::MEMBER => pair(front, bounds),
         shapes::WITHIN => within(front, bounds),
         shapes::RELATED => related(front, bounds),
         shapes::QUANTIFIED => bound(front, n, bounds),
@@ -311,12 +289,7 @@ fn connected(front: &[u16], bounds: &mut [u16]) -> Sized
 {
     let q = pred(front, bounds);
     let p = pred(&front[..q.start], bounds);
-    let fault = lesser_of(p.fault, q.fault);
-    Sized {
-        bound: 0,
-        fault,
-        start: p.start,
-    }
+    both(p, q)
 }
 
 // t in a..b.
@@ -325,11 +298,9 @@ fn within(front: &[u16], bounds: &mut [u16]) -> Sized
     ensures { (n : Node) → PredSized (ended front.now 6 n) (length front.now + 4) bounds.old bounds.new result }
 {
     let d = domain(front);
-    let t = term(&front[..d.start], bounds);
     Sized {
         bound: 0,
-        fault: t.fault,
-        start: t.start,
+        ..term(&front[..d.start], bounds)
     }
 }
 
@@ -340,10 +311,5 @@ fn related(front: &[u16], bounds: &mut [u16]) -> Sized
 {
     let v = term(front, bounds);
     let t = pair(&front[..v.start], bounds);
-    let fault = lesser_of(t.fault, v.fault);
-    Sized {
-        bound: 0,
-        fault,
-        start: t.start,
-    }
+    both(t, v)
 }

@@ -1,7 +1,6 @@
 -- What reading a text leaves for the calls and the report: its fault, or the arrays of its dossier for the search and for the lines of a witness. Nothing here need be believed.
 use Rattle.std.specs.Prelude.{◌≡◌, List, ℕ, ◌≤◌, length, take, Result, Ok, Err}
 use Rattle.refusals.specs.Refusals as refusals
-use Rattle.refusals.specs.Refusals.{number_of}
 use Rattle.refusals.specs.RefusalNames.{fault_is}
 use Rattle.refusals.specs.declared.Fault.{Fault}
 use Rattle.form.specs.Tree.{Dossier}

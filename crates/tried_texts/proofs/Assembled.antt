@@ -8,7 +8,7 @@ use lib.Dec.{leb}
 use borrow.Author.Tests.{leb-true, leb-false}
 use lib.ListN.{length, take, drop, length-take, length-drop}
 use lib.Seq.{take_all, take-take, take-append-le}
-use Rattle.std.proofs.lemmas.List.{take_min, drop_min}
+use Rattle.std.proofs.lemmas.List.{drop_min}
 use Rattle.static_rules.specs.Read as definition
 use Rattle.static_rules.specs.Read.{refusal, reading, read}
 use Rattle.text_readings.specs.TextPromises.{ReadAs, ReadsText}
@@ -29,11 +29,10 @@ cut n x y = on (leb (length x) n) refl
         take-append-le n (take n x) y (omega arith) ∙ take-take n n x (omega arith) ∙ sym (take-append-le n x y (omega arith))
 
 -- the three pieces, each cut where the room ends
-pub pieces : (text words : List ℕ) (from to : ℕ) {i j : ℕ} {w x y z front behind : List ℕ} → i ≡ min from (length text) → j ≡ min to (length text)
-    → w ≡ [] → x ≡ take 32769 (w ++ front) → y ≡ take 32769 (x ++ words) → z ≡ take 32769 (y ++ behind) → front ≡ take i text → behind ≡ take (length text - j) (drop j text)
+pub pieces : (text words : List ℕ) (from to : ℕ) {j : ℕ} {w x y z front behind : List ℕ} → j ≡ min to (length text)
+    → w ≡ [] → x ≡ take 32769 (w ++ front) → y ≡ take 32769 (x ++ words) → z ≡ take 32769 (y ++ behind) → front ≡ take from text → behind ≡ take (length text - j) (drop j text)
     → z ≡ instead text from to words
-pieces text words from to {i} {j} {w} {x} {y} {z} {front} {behind} hi hj hw hx hy hz hf hb =
-    let f : front ≡ take from text = hf ∙ ap (λ (n : ℕ). take n text) hi ∙ take_min from text in
+pieces text words from to {j} {w} {x} {y} {z} {front} {behind} hj hw hx hy hz f hb =
     let l = length-drop j text in
     let b : behind ≡ drop to text = hb ∙ take_all (length text - j) (drop j text) (omega arith) ∙ ap (λ (n : ℕ). drop n text) hj ∙ drop_min to text in
     let x' : x ≡ take 32769 (take from text) = hx ∙ ap (λ (l : List ℕ). take 32769 (l ++ front)) hw ∙ ap (take 32769) f in
@@ -60,6 +59,3 @@ answer text table rows firsts groups labels (reading d) (Ok m) e = tt
 
 pub answered : {text table rows firsts groups labels : List ℕ} {r : Result ℕ Fault} → ReadsText text table rows firsts groups labels r → AnswerOf text (result_err r)
 answered {text} {table} {rows} {firsts} {groups} {labels} {r} w = record { is = answer text table rows firsts groups labels (read text) r w.answer }
-
-pub answered_as : (text words : List ℕ) (from to : ℕ) {j k : ℕ} {a : Option Fault} → j ≡ k → AnswerOf (instead text from to (take j words)) a → AnswerOf (instead text from to (take k words)) a
-answered_as text words from to {j} {k} {a} e h = subst (λ (n : ℕ). AnswerOf (instead text from to (take n words)) a) e h

@@ -72,13 +72,13 @@ impl Kind {
     pub fn is_given(self) -> bool
         ensures { result ≡ is_given self }
     {
-        GIVEN <= self.code && self.code < ELEMENT
+        (GIVEN..ELEMENT).contains(&self.code)
     }
 
     pub fn is_element(self) -> bool
         ensures { result ≡ is_element self }
     {
-        ELEMENT <= self.code && self.code < SET
+        (ELEMENT..SET).contains(&self.code)
     }
 
     // A set, of elements or of pairs.
@@ -147,6 +147,7 @@ impl Kind {
         NONE
     }
 
+    // Form 2: `dom_of` with the rest in place of the quotient; one function for both would be handed which of the two, a closure over one operator.
     pub fn ran_of(self) -> Kind
         ensures { result ≡ ran_of self }
     {
@@ -180,6 +181,8 @@ impl Kind {
     }
 
     // How far behind the first given set it stands; what stands in front of that one has 0.
+    // Form 1: by `given`, `size_of` of binding_counts would be `k.given().map_or(0, ..)`, and 0 for a kind that is no given set, where `size_at` of its specs/BindingsByNumber,
+    // by which `bindings` says what its caller has to show of the tables, has what stands at k - 8: `bindings` would ask more.
     pub fn from_first_given(self) -> u16
         ensures { result ≡ self - 8 }
     {

@@ -3,7 +3,7 @@ ghost use Rattle.std.specs.Prelude.{◌≡◌, ◌+◌, ◌≤◌, ◌<◌, leng
 ghost use Rattle.refusals.specs.Refusals.{number_of};
 ghost use Rattle.refusals.specs.RefusalNames.{refusal_is};
 ghost use Rattle.type_rules.specs.Passes.{refused_key};
-ghost use Rattle.type_rules.specs.TypesByNumber.{entry, member_fits, related_fits, shared, key, fault_key, unless_key, lesser, judged_key, inside_key, is_free, range_fits, size_in, product_fits, over_key, brace_key, NodeAt};
+ghost use Rattle.type_rules.specs.TypesByNumber.{entry, member_fits, related_fits, shared, key, fault_key, unless_key, lesser, is_given, judged_key, inside_key, is_free, range_fits, size_in, product_fits, over_key, brace_key, NodeAt};
 
 use crate::entries::Kind;
 use crate::{Node, entries};
@@ -20,7 +20,8 @@ pub fn entry(names: &[Kind], x: usize) -> Kind
 }
 
 // The number at a place.
-// Form 1: behind the end it is 0, as FREE is what `entry` answers there; with an Option each of 36 calls would add `.unwrap_or(0)`.
+// Form 1: behind the end it is 0, as FREE is what `entry` answers there; with an Option each of 37 calls would add `.unwrap_or(0)`.
+// Form 2: `at_or` with 0: the 0, which says nothing at any of these calls, stands here once.
 pub fn look(numbers: &[u16], x: usize) -> u16
     ensures { result ≡ get_or numbers.now x 0 }
 {
@@ -83,7 +84,7 @@ pub fn all_well(fault: Option<Fault>) -> Result<(), Fault>
 }
 
 // A whole at the place i with the fault `parts` in its parts.
-// Form 7: as a closure, `fits` would be written `|| ..` at each of the nine calls, and the promise here would want a type parameter, and a clause that it may be run.
+// Form 7: as a closure, `fits` would be written `|| ..` at each of the seven calls, and the promise here would want a type parameter, and a clause that it may be run.
 pub fn judge(fits: bool, i: u16, refusal: Refusal, parts: Option<Fault>) -> Option<Fault>
     ensures { fault_key result ≡ judged_key fits (key i (number_of (refusal_is refusal))) (fault_key parts) }
 {
@@ -101,7 +102,8 @@ pub fn bound_fault(i: u16, old: Kind, over: Option<Fault>, body: Option<Fault>) 
 pub fn range_fits(a: u16, b: u16) -> bool
     ensures { result ≡ range_fits a b }
 {
-    a <= b && u32::from(b) < u32::from(a) + bounds::RANGE_NUMBERS
+    let first = u32::from(a);
+    (first..first + bounds::RANGE_NUMBERS).contains(&u32::from(b))
 }
 
 // How many elements the given set g has.
@@ -130,6 +132,22 @@ pub fn over_fault(sizes: &[u16], k: Kind, l: Kind, i: usize) -> Option<Fault>
         }
         _ => None,
     }
+}
+
+// The first fault of pairs over two names, each at a place of its own, by what these are.
+pub fn pairs_fault(
+    sizes: &[u16],
+    g: Kind,
+    h: Kind,
+    first: usize,
+    second: usize,
+    pairs: usize,
+) -> Option<Fault>
+    ensures { fault_key result ≡ lesser (unless_key (is_given g) (key first 9)) (lesser (unless_key (is_given h) (key second 9)) (over_key sizes.now g h pairs)) }
+{
+    let one = unless(g.is_given(), first, Refusal::NameUnknown);
+    let two = unless(h.is_given(), second, Refusal::NameUnknown);
+    lesser_of(one, lesser_of(two, over_fault(sizes, g, h, pairs)))
 }
 
 // The fault of a brace of pairs of the type k, whose parts have none.

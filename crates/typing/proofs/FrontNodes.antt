@@ -2,7 +2,8 @@
 use mathlib.Core.Path.{◌≡◌, sym, ap, ◌∙◌, subst}
 use mathlib.Core.List.{List, [], ◌∷◌, ◌++◌}
 use Prim.Native.Nat.{ℕ, suc, ◌+◌, ◌-◌, ◌≤◌, ◌<◌}
-use native.Mathlib.Nat.{min-le_left, min-le_right, le_trans}
+use native.Mathlib.Nat.{min-le_left, le_trans}
+use Rattle.std.proofs.Math.Nat.{le_refl}
 use native.Mathlib.Omega.{arith}
 use lib.ListN.{length, take, drop, get_or, length-take, length-append, take-append-drop, drop_of_length-le}
 use lib.Seq.{take-length, take_at, take-append-le, drop-cons, get_or-append-add}
@@ -11,14 +12,13 @@ use Rattle.type_rules.specs.declared.Seen.{Seen}
 use Rattle.type_rules.specs.declared.Node.{Node}
 use Rattle.type_rules.specs.TypesByNumber.{Names, Sizes, NodeAt, DomainSeen, TermSeen, ItemsSeen, PairSeen, PairsSeen, PredSeen}
 use Rattle.typing.specs.BoundPromise.{BoundSeen}
+use Rattle.typing.specs.SidesPromise.{SidesSeen}
+use Rattle.typing.specs.declared.types.Sides.{Sides}
 use Rattle.typing.specs.EndedNodes.{ended}
 
 -- what stands in the first m numbers
 pub front-le : (x : List ℕ) {m s : ℕ} → s ≤ length (take m x) → s ≤ m
 front-le x {m = m} {s = s} h = le_trans (subst (λ (n : ℕ). s ≤ n) (length-take m x) h) (min-le_left m (length x))
-
-pub inside-le : (x : List ℕ) (m : ℕ) {s : ℕ} → s ≤ length (take m x) → s ≤ length x
-inside-le x m {s = s} h = le_trans (subst (λ (n : ℕ). s ≤ n) (length-take m x) h) (min-le_right m (length x))
 
 -- a node behind x
 ended-at : (x : List ℕ) (k : ℕ) (n : Node) (j : ℕ) → get_or (ended x k n) (length x + 4 - 4 + j) 0 ≡ get_or (node k n.place n.a n.b) j 0
@@ -60,55 +60,56 @@ ended-whole code k n l h q =
     let same : n.b ∷ n.a ∷ n.place ∷ k ∷ [] ≡ drop m code = cc in
     ap (λ (y : List ℕ). take m code ++ y) same ∙ take-append-drop m code
 
-pub domain-before : (x y : List ℕ) {T : Names} {r : Seen} → DomainSeen x (length x) T r → DomainSeen (x ++ y) (length x + 4 - 4) T r
-domain-before x y s = record { falls = omega (arith, s.falls); right = λ d i ρ base q. s.right d i ρ base (take-length x ∙ sym (take_at x y (length x + 4 - 4) (omega arith)) ∙ q) }
+-- a law of nodes and where they end, at nodes of which the last stands behind the others
+pub whole : (P : List ℕ → ℕ → Type 0) {code : List ℕ} {k : ℕ} {n : Node} → 4 ≤ length code → NodeAt code (length code) n → get_or code (length code - 4 + 3) 0 ≡ k
+    → P (ended (take (length code - 4) code) k n) (length (take (length code - 4) code) + 4) → P code (length code)
+whole P {code = code} {k = k} {n = n} l h q s =
+    let y : List ℕ = take (length code - 4) code in
+    subst (λ (x : List ℕ). P x (length x)) (ended-whole code k n l h q)
+    (subst (λ (e : ℕ). P (ended y k n) e) (omega (arith, length-append y (node k n.place n.a n.b))) s)
 
-pub bound-before : (x y : List ℕ) {n : Node} {T U : Names} {z : Sizes} {r : Seen} → BoundSeen x (length x) n T U z r → BoundSeen (x ++ y) (length x + 4 - 4) n T U z r
-bound-before x y s = record {
-  falls = omega (arith, s.falls);
-  kept = s.kept;
-  right = λ d p i j ρ base q. s.right d p i j ρ base (take-length x ∙ sym (take_at x y (length x + 4 - 4) (omega arith)) ∙ q);
-}
+-- the nodes that end at e in x are those that end at m in y: what was seen of the former was seen of the latter
+pub record Ending (x : List ℕ) (e : ℕ) (y : List ℕ) (m : ℕ) : Type 0 where
+  pub same : take e x ≡ take m y
+  pub less : e ≤ m
 
-pub term-front : {x : List ℕ} {m : ℕ} {T U : Names} {z : Sizes} {r : Seen} → TermSeen (take m x) (length (take m x)) T U z r → TermSeen x m T U z r
-term-front {x = x} {m = m} s = record { falls = front-le x s.falls; kept = s.kept; right = λ t i ρ base q. s.right t i ρ base (take-length (take m x) ∙ q) }
+pub front : {x : List ℕ} {m : ℕ} → Ending (take m x) (length (take m x)) x m
+front {x = x} {m = m} = record { same = take-length (take m x); less = front-le x (le_refl (length (take m x))) }
 
-pub term-behind : (x y : List ℕ) {m : ℕ} {T U : Names} {z : Sizes} {r : Seen} → m ≤ length x → TermSeen (take m x) (length (take m x)) T U z r → TermSeen (x ++ y) m T U z r
-term-behind x y {m = m} l s = record { falls = front-le x s.falls; kept = s.kept; right = λ t i ρ base q. s.right t i ρ base (take-length (take m x) ∙ sym (take-append-le m x y l) ∙ q) }
+pub behind : (x y : List ℕ) {m : ℕ} → m ≤ length x → Ending (take m x) (length (take m x)) (x ++ y) m
+behind x y {m = m} l = record { same = take-length (take m x) ∙ sym (take-append-le m x y l); less = front-le x (le_refl (length (take m x))) }
 
-pub term-before : (x y : List ℕ) {T U : Names} {z : Sizes} {r : Seen} → TermSeen x (length x) T U z r → TermSeen (x ++ y) (length x + 4 - 4) T U z r
-term-before x y s = record { falls = omega (arith, s.falls); kept = s.kept; right = λ t i ρ base q. s.right t i ρ base (take-length x ∙ sym (take_at x y (length x + 4 - 4) (omega arith)) ∙ q) }
+pub before : (x y : List ℕ) → Ending x (length x) (x ++ y) (length x + 4 - 4)
+before x y = record { same = take-length x ∙ sym (take_at x y (length x + 4 - 4) (omega arith)); less = omega arith }
+
+pub domain-at : {x y : List ℕ} {e m : ℕ} {T : Names} {r : Seen} → Ending x e y m → DomainSeen x e T r → DomainSeen y m T r
+domain-at h s = record { falls = le_trans s.falls h.less; right = λ d i ρ base q. s.right d i ρ base (h.same ∙ q) }
+
+pub bound-at : {x y : List ℕ} {e m : ℕ} {n : Node} {T U : Names} {z : Sizes} {r : Seen} → Ending x e y m → BoundSeen x e n T U z r → BoundSeen y m n T U z r
+bound-at h s = record { falls = le_trans s.falls h.less; kept = s.kept; right = λ d p i j ρ base q. s.right d p i j ρ base (h.same ∙ q) }
+
+pub term-at : {x y : List ℕ} {e m : ℕ} {T U : Names} {z : Sizes} {r : Seen} → Ending x e y m → TermSeen x e T U z r → TermSeen y m T U z r
+term-at h s = record { falls = le_trans s.falls h.less; kept = s.kept; right = λ t i ρ base q. s.right t i ρ base (h.same ∙ q) }
+
+pub items-at : {x y : List ℕ} {e m : ℕ} {T U : Names} {z : Sizes} {r : Seen} → Ending x e y m → ItemsSeen x e T U z r → ItemsSeen y m T U z r
+items-at h s = record { falls = le_trans s.falls h.less; kept = s.kept; right = λ ts i ρ base q. s.right ts i ρ base (h.same ∙ q) }
+
+pub sides-at : {x y : List ℕ} {e m : ℕ} {T U : Names} {z : Sizes} {r : Sides} → Ending x e y m → SidesSeen x e T U z r → SidesSeen y m T U z r
+sides-at h s = record { falls = le_trans s.falls h.less; kept = s.kept; right = λ t u i j ρ base q. s.right t u i j ρ base (h.same ∙ q) }
+
+pub pair-at : {x y : List ℕ} {e m : ℕ} {T U : Names} {z : Sizes} {r : Seen} → Ending x e y m → PairSeen x e T U z r → PairSeen y m T U z r
+pair-at h s = record { falls = le_trans s.falls h.less; kept = s.kept; right = λ t u i j ρ base q. s.right t u i j ρ base (h.same ∙ q) }
+
+pub pairs-at : {x y : List ℕ} {e m : ℕ} {T U : Names} {z : Sizes} {r : Seen} → Ending x e y m → PairsSeen x e T U z r → PairsSeen y m T U z r
+pairs-at h s = record { falls = le_trans s.falls h.less; kept = s.kept; right = λ ts i ρ base q. s.right ts i ρ base (h.same ∙ q) }
+
+pub pred-at : {x y : List ℕ} {e m : ℕ} {T U : Names} {z : Sizes} {r : Seen} → Ending x e y m → PredSeen x e T U z r → PredSeen y m T U z r
+pred-at h s = record { falls = le_trans s.falls h.less; kept = s.kept; right = λ p i ρ base q. s.right p i ρ base (h.same ∙ q) }
 
 pub term-whole : {code : List ℕ} {k : ℕ} {n : Node} {T U : Names} {z : Sizes} {r : Seen} → 4 ≤ length code → NodeAt code (length code) n → get_or code (length code - 4 + 3) 0 ≡ k
     → TermSeen (ended (take (length code - 4) code) k n) (length (take (length code - 4) code) + 4) T U z r → TermSeen code (length code) T U z r
-term-whole {code = code} {k = k} {n = n} {T = T} {U = U} {z = z} {r = r} l h q s =
-    subst (λ (x : List ℕ). TermSeen x (length x) T U z r) (ended-whole code k n l h q) (subst (λ (e : ℕ). TermSeen (ended (take (length code - 4) code) k n) e T U z r) (omega (arith, length-append (take (length code - 4) code) (node k n.place n.a n.b))) s)
-
-pub items-front : {x : List ℕ} {m : ℕ} {T U : Names} {z : Sizes} {r : Seen} → ItemsSeen (take m x) (length (take m x)) T U z r → ItemsSeen x m T U z r
-items-front {x = x} {m = m} s = record { falls = front-le x s.falls; kept = s.kept; right = λ ts i ρ base q. s.right ts i ρ base (take-length (take m x) ∙ q) }
-
-pub items-before : (x y : List ℕ) {T U : Names} {z : Sizes} {r : Seen} → ItemsSeen x (length x) T U z r → ItemsSeen (x ++ y) (length x + 4 - 4) T U z r
-items-before x y s = record { falls = omega (arith, s.falls); kept = s.kept; right = λ ts i ρ base q. s.right ts i ρ base (take-length x ∙ sym (take_at x y (length x + 4 - 4) (omega arith)) ∙ q) }
-
-pub pair-front : {x : List ℕ} {m : ℕ} {T U : Names} {z : Sizes} {r : Seen} → PairSeen (take m x) (length (take m x)) T U z r → PairSeen x m T U z r
-pair-front {x = x} {m = m} s = record { falls = front-le x s.falls; kept = s.kept; right = λ t u i j ρ base q. s.right t u i j ρ base (take-length (take m x) ∙ q) }
-
-pub pairs-front : {x : List ℕ} {m : ℕ} {T U : Names} {z : Sizes} {r : Seen} → PairsSeen (take m x) (length (take m x)) T U z r → PairsSeen x m T U z r
-pairs-front {x = x} {m = m} s = record { falls = front-le x s.falls; kept = s.kept; right = λ ts i ρ base q. s.right ts i ρ base (take-length (take m x) ∙ q) }
-
-pub pairs-before : (x y : List ℕ) {T U : Names} {z : Sizes} {r : Seen} → PairsSeen x (length x) T U z r → PairsSeen (x ++ y) (length x + 4 - 4) T U z r
-pairs-before x y s = record { falls = omega (arith, s.falls); kept = s.kept; right = λ ts i ρ base q. s.right ts i ρ base (take-length x ∙ sym (take_at x y (length x + 4 - 4) (omega arith)) ∙ q) }
-
-pub pred-front : {x : List ℕ} {m : ℕ} {T U : Names} {z : Sizes} {r : Seen} → PredSeen (take m x) (length (take m x)) T U z r → PredSeen x m T U z r
-pred-front {x = x} {m = m} s = record { falls = front-le x s.falls; kept = s.kept; right = λ p i ρ base q. s.right p i ρ base (take-length (take m x) ∙ q) }
-
-pub pred-behind : (x y : List ℕ) {m : ℕ} {T U : Names} {z : Sizes} {r : Seen} → m ≤ length x → PredSeen (take m x) (length (take m x)) T U z r → PredSeen (x ++ y) m T U z r
-pred-behind x y {m = m} l s = record { falls = front-le x s.falls; kept = s.kept; right = λ p i ρ base q. s.right p i ρ base (take-length (take m x) ∙ sym (take-append-le m x y l) ∙ q) }
-
-pub pred-before : (x y : List ℕ) {T U : Names} {z : Sizes} {r : Seen} → PredSeen x (length x) T U z r → PredSeen (x ++ y) (length x + 4 - 4) T U z r
-pred-before x y s = record { falls = omega (arith, s.falls); kept = s.kept; right = λ p i ρ base q. s.right p i ρ base (take-length x ∙ sym (take_at x y (length x + 4 - 4) (omega arith)) ∙ q) }
+term-whole {T = T} {U = U} {z = z} {r = r} = whole (λ (x : List ℕ) (e : ℕ). TermSeen x e T U z r)
 
 pub pred-whole : {code : List ℕ} {k : ℕ} {n : Node} {T U : Names} {z : Sizes} {r : Seen} → 4 ≤ length code → NodeAt code (length code) n → get_or code (length code - 4 + 3) 0 ≡ k
     → PredSeen (ended (take (length code - 4) code) k n) (length (take (length code - 4) code) + 4) T U z r → PredSeen code (length code) T U z r
-pred-whole {code = code} {k = k} {n = n} {T = T} {U = U} {z = z} {r = r} l h q s =
-    subst (λ (x : List ℕ). PredSeen x (length x) T U z r) (ended-whole code k n l h q) (subst (λ (e : ℕ). PredSeen (ended (take (length code - 4) code) k n) e T U z r) (omega (arith, length-append (take (length code - 4) code) (node k n.place n.a n.b))) s)
+pred-whole {T = T} {U = U} {z = z} {r = r} = whole (λ (x : List ℕ) (e : ℕ). PredSeen x e T U z r)

@@ -256,31 +256,44 @@ no-term t k n q = let h = in_t t in n (omega arith) (omega arith)
 pub no-pred : (p : Pred) (k : ℕ) → (1 ≤ k → k ≤ 8 → ⊥) → k ≡ shape_p p → ⊥
 no-pred p k n q = let h = in_p p in n (omega arith) (omega arith)
 
--- what was seen of a tree t that begins at i
-abbrev pub RightT : List ℕ → ℕ → Names → Sizes → Seen → Term → ℕ → Type 0
-RightT code e T z r t i = (ρ : Numbering) (base : List ℕ) → take e code ≡ base ++ term_codes t i ρ → Saw r (term_kind t T ρ) (term_key t T ρ z i) (length base)
+-- what W says of a tree that begins at i, where its nodes end at e behind others
+abbrev pub RightT : List ℕ → ℕ → (Term → ℕ → Numbering → ℕ → Type 0) → Term → ℕ → Type 0
+RightT code e W t i = (ρ : Numbering) (base : List ℕ) → take e code ≡ base ++ term_codes t i ρ → W t i ρ (length base)
 
-abbrev pub RightP : List ℕ → ℕ → Names → Sizes → Seen → Pred → ℕ → Type 0
-RightP code e T z r p i = (ρ : Numbering) (base : List ℕ) → take e code ≡ base ++ pred_codes p i ρ → Saw r 0 (pred_key p T ρ z i) (length base)
+abbrev pub RightP : List ℕ → ℕ → (Pred → ℕ → Numbering → ℕ → Type 0) → Pred → ℕ → Type 0
+RightP code e W p i = (ρ : Numbering) (base : List ℕ) → take e code ≡ base ++ pred_codes p i ρ → W p i ρ (length base)
+
+-- of every tree, by what it says of those that end in a node of the shape that stands here
+module _ (code : List ℕ) (e : ℕ) (l : e ≤ length code) where
+  pub terms-by : (W : Term → ℕ → Numbering → ℕ → Type 0) → ((t : Term) (i : ℕ) (ρ : Numbering) (s : ℕ) → W t (suc i) ρ s → W (group t) i ρ s)
+      → (k : ℕ) → get_or code (e - 4 + 3) 0 ≡ k → CaseT k (RightT code e W) → (t : Term) (i : ℕ) → RightT code e W t i
+  unfolding term_codes
+  terms-by W g k q h t i ρ base y =
+      pick_t (RightT code e W) (λ u j f τ x r. g u j τ (length x) (f τ x r)) t i
+      (subst (λ (n : ℕ). CaseT n (RightT code e W)) (sym q ∙ shape_is code e l base (ends_t t i ρ) y) h) ρ base y
+
+  pub preds-by : (W : Pred → ℕ → Numbering → ℕ → Type 0) → ((p : Pred) (i : ℕ) (ρ : Numbering) (s : ℕ) → W p (suc i) ρ s → W (paren p) i ρ s)
+      → (k : ℕ) → get_or code (e - 4 + 3) 0 ≡ k → CaseP k (RightP code e W) → (p : Pred) (i : ℕ) → RightP code e W p i
+  unfolding term_codes
+  preds-by W g k q h p i ρ base y =
+      pick_p (RightP code e W) (λ u j f τ x r. g u j τ (length x) (f τ x r)) p i
+      (subst (λ (n : ℕ). CaseP n (RightP code e W)) (sym q ∙ shape_is code e l base (ends_p p i ρ) y) h) ρ base y
+
+-- what was seen of a tree
+abbrev pub SawTerm : Names → Sizes → Seen → Term → ℕ → Numbering → ℕ → Type 0
+SawTerm T z r t i ρ s = Saw r (term_kind t T ρ) (term_key t T ρ z i) s
+
+abbrev pub SawPred : Names → Sizes → Seen → Pred → ℕ → Numbering → ℕ → Type 0
+SawPred T z r p i ρ s = Saw r 0 (pred_key p T ρ z i) s
 
 module _ (code : List ℕ) (e : ℕ) (l : e ≤ length code) (T : Names) (z : Sizes) where
-  pub term-from : (k : ℕ) (U : Names) (r : Seen) → r.start ≤ e → U ≡ T → get_or code (e - 4 + 3) 0 ≡ k → CaseT k (RightT code e T z r) → TermSeen code e T U z r
-  unfolding term_codes term_kind term_key
-  term-from k U r f g q h = record {
-    falls = f;
-    kept = g;
-    right = λ t i ρ base y. pick_t (RightT code e T z r) (λ t i h. h) t i
-        (subst (λ (n : ℕ). CaseT n (RightT code e T z r)) (sym q ∙ shape_is code e l base (ends_t t i ρ) y) h) ρ base y;
-  }
+  pub term-from : (k : ℕ) (U : Names) (r : Seen) → r.start ≤ e → U ≡ T → get_or code (e - 4 + 3) 0 ≡ k → CaseT k (RightT code e (SawTerm T z r)) → TermSeen code e T U z r
+  unfolding term_kind term_key
+  term-from k U r f g q h = record { falls = f; kept = g; right = terms-by code e l (SawTerm T z r) (λ t i ρ s h. h) k q h }
 
-  pub pred-from : (k : ℕ) (U : Names) (r : Seen) → r.start ≤ e → U ≡ T → get_or code (e - 4 + 3) 0 ≡ k → CaseP k (RightP code e T z r) → PredSeen code e T U z r
-  unfolding term_codes term_key
-  pred-from k U r f g q h = record {
-    falls = f;
-    kept = g;
-    right = λ p i ρ base y. pick_p (RightP code e T z r) (λ p i h. h) p i
-        (subst (λ (n : ℕ). CaseP n (RightP code e T z r)) (sym q ∙ shape_is code e l base (ends_p p i ρ) y) h) ρ base y;
-  }
+  pub pred-from : (k : ℕ) (U : Names) (r : Seen) → r.start ≤ e → U ≡ T → get_or code (e - 4 + 3) 0 ≡ k → CaseP k (RightP code e (SawPred T z r)) → PredSeen code e T U z r
+  unfolding term_key
+  pred-from k U r f g q h = record { falls = f; kept = g; right = preds-by code e l (SawPred T z r) (λ p i ρ s h. h) k q h }
 
   -- no nodes of a tree end here
   pub domain-short : (r : Seen) → r.start ≡ 0 → e < 4 → DomainSeen code e T r

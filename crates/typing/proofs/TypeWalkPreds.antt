@@ -16,6 +16,8 @@ use Rattle.type_rules.specs.declared.Node.{Node}
 use Rattle.type_rules.specs.TypesByNumber.{Names, Sizes, entry, is_number, member_fits, related_fits, comparison_fits, key, fault_key, lesser, judged_key}
 use Rattle.type_rules.specs.TypesByNumber.{domain_kind, term_kind, term_key, pred_key, ComparisonFits, NodeAt, DomainSeen, TermSeen, PredSeen}
 use Rattle.typing.specs.BoundPromise.{BoundSeen}
+use Rattle.typing.specs.SidesPromise.{SidesSeen}
+use Rattle.typing.specs.declared.types.Sides.{Sides}
 use Rattle.typing.proofs.LastNodes.{last-node, one-part, two-parts, three-parts, middle, pred-from}
 use Rattle.typing.proofs.TypeWalkTerms.{seen-judged, seen-bound}
 
@@ -46,46 +48,39 @@ module _ (code : List ℕ) (e : ℕ) (l : e ≤ length code) (T : Names) (z : Si
       let s₁ = hv.right p₁ i ρ base (middle code (e - 4) u.start (base ++ pred_codes p₁ i ρ) (pred_codes p₂ j ρ) h.before hu.falls s₂.start_is) in
       record { kind_is = kq; fault_is = fq ∙ ap₂ lesser s₁.fault_is s₂.fault_is; start_is = sq ∙ s₁.start_is })
 
-  pub pred-compared : (U W : Names) (n : Node) (v u r : Seen) (b : Bool) (m : ℕ) → NodeAt code e n → get_or code (e - 4 + 3) 0 ≡ 4
-      → TermSeen code (e - 4) T U z u → TermSeen code u.start U W z v
-      → ComparisonFits n.a v.kind u.kind b → m ≡ lesser (fault_key v.fault) (fault_key u.fault)
-      → r.kind ≡ 0 → r.start ≡ v.start → fault_key r.fault ≡ judged_key b (key n.place 10) m
-      → PredSeen code e T W z r
+  pub pred-compared : (U : Names) (n : Node) (v : Sides) (r : Seen) (b : Bool) → NodeAt code e n → get_or code (e - 4 + 3) 0 ≡ 4
+      → SidesSeen code (e - 4) T U z v → ComparisonFits n.a v.first v.second b
+      → r.kind ≡ 0 → r.start ≡ v.start → fault_key r.fault ≡ judged_key b (key n.place 10) (fault_key v.fault)
+      → PredSeen code e T U z r
   unfolding term_codes term_key
-  pred-compared U W n v u r b m hn q hu hv₀ bq mq kq sq fq =
-      let hv : TermSeen code u.start T W z v = subst (λ (X : Names). TermSeen code u.start X W z v) hu.kept hv₀ in
-      pred-from code e l T z 4 W r (let f = hu.falls in let g = hv.falls in omega arith) hv.kept q
+  pred-compared U n v r b hn q hv bq kq sq fq =
+      pred-from code e l T z 4 U r (let f = hv.falls in omega arith) hv.kept q
       (λ o t₁ t₂ i ρ base y.
       let j : ℕ = suc (i + term_width t₁) in
       let h = two-parts code e l base (term_codes t₁ i ρ) (term_codes t₂ j ρ) 4 (i + term_width t₁) (code_of (comparison_kind o)) 0 y in
-      let s₂ = hu.right t₂ j ρ (base ++ term_codes t₁ i ρ) h.before in
-      let s₁ = hv.right t₁ i ρ base (middle code (e - 4) u.start (base ++ term_codes t₁ i ρ) (term_codes t₂ j ρ) h.before hu.falls s₂.start_is) in
+      let s = hv.right t₁ t₂ i j ρ base h.before in
       record {
         kind_is = kq;
-        fault_is = fq ∙ seen-judged (bq o (sym (hn.first_is ∙ h.is_first)) ∙ ap₂ (comparison_fits o) s₁.kind_is s₂.kind_is) (hn.place_is ∙ h.is_place)
-            (mq ∙ ap₂ lesser s₁.fault_is s₂.fault_is);
-        start_is = sq ∙ s₁.start_is;
+        fault_is = fq ∙ seen-judged (bq o (sym (hn.first_is ∙ h.is_first)) ∙ ap₂ (comparison_fits o) s.first_is s.second_is) (hn.place_is ∙ h.is_place) s.fault_is;
+        start_is = sq ∙ s.start_is;
       })
 
   -- t in u, t in a..b, t |-> u in v
-  pub pred-member : (U W : Names) (n : Node) (v u r : Seen) (b : Bool) (m : ℕ) → NodeAt code e n → get_or code (e - 4 + 3) 0 ≡ 5
-      → TermSeen code (e - 4) T U z u → TermSeen code u.start U W z v
-      → b ≡ member_fits v.kind u.kind → m ≡ lesser (fault_key v.fault) (fault_key u.fault)
-      → r.kind ≡ 0 → r.start ≡ v.start → fault_key r.fault ≡ judged_key b (key n.place 10) m
-      → PredSeen code e T W z r
+  pub pred-member : (U : Names) (n : Node) (v : Sides) (r : Seen) (b : Bool) → NodeAt code e n → get_or code (e - 4 + 3) 0 ≡ 5
+      → SidesSeen code (e - 4) T U z v → b ≡ member_fits v.first v.second
+      → r.kind ≡ 0 → r.start ≡ v.start → fault_key r.fault ≡ judged_key b (key n.place 10) (fault_key v.fault)
+      → PredSeen code e T U z r
   unfolding term_codes term_key
-  pred-member U W n v u r b m hn q hu hv₀ bq mq kq sq fq =
-      let hv : TermSeen code u.start T W z v = subst (λ (X : Names). TermSeen code u.start X W z v) hu.kept hv₀ in
-      pred-from code e l T z 5 W r (let f = hu.falls in let g = hv.falls in omega arith) hv.kept q
+  pred-member U n v r b hn q hv bq kq sq fq =
+      pred-from code e l T z 5 U r (let f = hv.falls in omega arith) hv.kept q
       (λ o t₁ t₂ i ρ base y.
       let j : ℕ = suc (i + term_width t₁) in
       let h = two-parts code e l base (term_codes t₁ i ρ) (term_codes t₂ j ρ) 5 (i + term_width t₁) (code_of (membership_kind o)) 0 y in
-      let s₂ = hu.right t₂ j ρ (base ++ term_codes t₁ i ρ) h.before in
-      let s₁ = hv.right t₁ i ρ base (middle code (e - 4) u.start (base ++ term_codes t₁ i ρ) (term_codes t₂ j ρ) h.before hu.falls s₂.start_is) in
+      let s = hv.right t₁ t₂ i j ρ base h.before in
       record {
         kind_is = kq;
-        fault_is = fq ∙ seen-judged (bq ∙ ap₂ member_fits s₁.kind_is s₂.kind_is) (hn.place_is ∙ h.is_place) (mq ∙ ap₂ lesser s₁.fault_is s₂.fault_is);
-        start_is = sq ∙ s₁.start_is;
+        fault_is = fq ∙ seen-judged (bq ∙ ap₂ member_fits s.first_is s.second_is) (hn.place_is ∙ h.is_place) s.fault_is;
+        start_is = sq ∙ s.start_is;
       })
 
   pub pred-within : (W : Names) (n : Node) (v d r : Seen) (m : ℕ) → NodeAt code e n → get_or code (e - 4 + 3) 0 ≡ 6
@@ -106,29 +101,26 @@ module _ (code : List ℕ) (e : ℕ) (l : e ≤ length code) (T : Names) (z : Si
         start_is = sq ∙ s₁.start_is;
       })
 
-  pub pred-related : (U W X : Names) (n : Node) (t u v r : Seen) (b : Bool) (m o : ℕ) → NodeAt code e n → get_or code (e - 4 + 3) 0 ≡ 7
-      → TermSeen code (e - 4) T U z v → TermSeen code v.start U W z u → TermSeen code u.start W X z t
-      → b ≡ related_fits t.kind u.kind v.kind → m ≡ lesser (fault_key t.fault) (fault_key u.fault) → o ≡ lesser m (fault_key v.fault)
-      → r.kind ≡ 0 → r.start ≡ t.start → fault_key r.fault ≡ judged_key b (key n.place 10) o
-      → PredSeen code e T X z r
+  pub pred-related : (U W : Names) (n : Node) (t : Sides) (v r : Seen) (b : Bool) (m : ℕ) → NodeAt code e n → get_or code (e - 4 + 3) 0 ≡ 7
+      → TermSeen code (e - 4) T U z v → SidesSeen code v.start U W z t
+      → b ≡ related_fits t.first t.second v.kind → m ≡ lesser (fault_key t.fault) (fault_key v.fault)
+      → r.kind ≡ 0 → r.start ≡ t.start → fault_key r.fault ≡ judged_key b (key n.place 10) m
+      → PredSeen code e T W z r
   unfolding term_codes term_key
-  pred-related U W X n t u v r b m o hn q hv hu₀ ht₀ bq mq oq kq sq fq =
-      let hu : TermSeen code v.start T W z u = subst (λ (Y : Names). TermSeen code v.start Y W z u) hv.kept hu₀ in
-      let ht : TermSeen code u.start T X z t = subst (λ (Y : Names). TermSeen code u.start Y X z t) hu.kept ht₀ in
-      pred-from code e l T z 7 X r (let f = hv.falls in let g = hu.falls in let g' = ht.falls in omega arith) ht.kept q
+  pred-related U W n t v r b m hn q hv ht₀ bq mq kq sq fq =
+      let ht : SidesSeen code v.start T W z t = subst (λ (Y : Names). SidesSeen code v.start Y W z t) hv.kept ht₀ in
+      pred-from code e l T z 7 W r (let f = hv.falls in let g = ht.falls in omega arith) ht.kept q
       (λ c t₁ t₂ t₃ i ρ base y.
       let j : ℕ = suc (i + term_width t₁) in
       let k : ℕ = suc (j + term_width t₂) in
       let h = three-parts code e l base (term_codes t₁ i ρ) (term_codes t₂ j ρ) (term_codes t₃ k ρ) 7 (j + term_width t₂) (code_of (membership_kind c)) 0 y in
       let s₃ = hv.right t₃ k ρ ((base ++ term_codes t₁ i ρ) ++ term_codes t₂ j ρ) h.before in
-      let y₂ = middle code (e - 4) v.start ((base ++ term_codes t₁ i ρ) ++ term_codes t₂ j ρ) (term_codes t₃ k ρ) h.before hv.falls s₃.start_is in
-      let s₂ = hu.right t₂ j ρ (base ++ term_codes t₁ i ρ) y₂ in
-      let s₁ = ht.right t₁ i ρ base (middle code v.start u.start (base ++ term_codes t₁ i ρ) (term_codes t₂ j ρ) y₂ hu.falls s₂.start_is) in
+      let s = ht.right t₁ t₂ i j ρ base (middle code (e - 4) v.start ((base ++ term_codes t₁ i ρ) ++ term_codes t₂ j ρ) (term_codes t₃ k ρ) h.before hv.falls s₃.start_is) in
       record {
         kind_is = kq;
-        fault_is = fq ∙ seen-judged (bq ∙ ap₂ (λ (x₁ x₂ : ℕ). related_fits x₁ x₂ v.kind) s₁.kind_is s₂.kind_is ∙ ap (related_fits (term_kind t₁ T ρ) (term_kind t₂ T ρ)) s₃.kind_is)
-            (hn.place_is ∙ h.is_place) (oq ∙ ap₂ lesser (mq ∙ ap₂ lesser s₁.fault_is s₂.fault_is) s₃.fault_is);
-        start_is = sq ∙ s₁.start_is;
+        fault_is = fq ∙ seen-judged (bq ∙ ap₂ (λ (x₁ x₂ : ℕ). related_fits x₁ x₂ v.kind) s.first_is s.second_is ∙ ap (related_fits (term_kind t₁ T ρ) (term_kind t₂ T ρ)) s₃.kind_is)
+            (hn.place_is ∙ h.is_place) (mq ∙ ap₂ lesser s.fault_is s₃.fault_is);
+        start_is = sq ∙ s.start_is;
       })
 
   -- (forall x : T @ p)

@@ -17,6 +17,8 @@ use Rattle.type_rules.specs.declared.Node.{Node}
 use Rattle.type_rules.specs.TypesByNumber.{Names, Sizes, entry, is_free, is_number, is_given, is_element, in_reach, element_of, set_of, pair_of, prefix_fits, prefix_type, operator_fits, shared, key, fault_key, unless_key, lesser, judged_key, inside_key, range_fits, over_key, brace_key}
 use Rattle.type_rules.specs.TypesByNumber.{domain_kind, domain_key, term_kind, items_kind, pairs_kind, term_key, items_key, pairs_key, pred_key, PrefixFits, PrefixType, OperatorFits, NodeAt, Saw, DomainSeen, TermSeen, ItemsSeen, PairSeen, PairsSeen, PredSeen}
 use Rattle.typing.specs.BoundPromise.{BoundSeen}
+use Rattle.typing.specs.SidesPromise.{SidesSeen}
+use Rattle.typing.specs.declared.types.Sides.{Sides}
 use Rattle.typing.proofs.LastNodes.{last-node, one-part, two-parts, three-parts, middle, term-from}
 
 -- faults from the faults of the parts
@@ -106,24 +108,21 @@ module _ (code : List ℕ) (e : ℕ) (l : e ≤ length code) (T : Names) (z : Si
         start_is = s ∙ sym h.long;
       })
 
-  pub term-empty-pairs : (n : Node) (r : Seen) (x₁ x₂ v₁ v₂ w₁ w₂ k₁ k₂ f₁ f₂ f₃ m : ℕ) (b₁ b₂ : Bool) → NodeAt code e n → get_or code (e - 4 + 3) 0 ≡ 10
-      → r.start ≡ e - 4 → x₁ ≡ n.a → x₂ ≡ n.b → v₁ ≡ entry T x₁ → v₂ ≡ entry T x₂ → w₁ ≡ n.place → w₂ ≡ n.place → b₁ ≡ is_given v₁ → b₂ ≡ is_given v₂
-      → k₁ ≡ element_of v₁ → k₂ ≡ element_of v₂ → r.kind ≡ pair_of k₁ k₂
-      → f₁ ≡ unless_key b₁ (key (w₁ + 1) 9) → f₂ ≡ unless_key b₂ (key (w₂ + 2) 9) → f₃ ≡ over_key z v₁ v₂ n.place → m ≡ lesser f₂ f₃ → fault_key r.fault ≡ lesser f₁ m
+  pub term-empty-pairs : (n : Node) (r : Seen) (x₁ x₂ v₁ v₂ w k₁ k₂ : ℕ) → NodeAt code e n → get_or code (e - 4 + 3) 0 ≡ 10
+      → r.start ≡ e - 4 → x₁ ≡ n.a → x₂ ≡ n.b → v₁ ≡ entry T x₁ → v₂ ≡ entry T x₂ → w ≡ n.place → k₁ ≡ element_of v₁ → k₂ ≡ element_of v₂ → r.kind ≡ pair_of k₁ k₂
+      → fault_key r.fault ≡ lesser (unless_key (is_given v₁) (key (w + 1) 9)) (lesser (unless_key (is_given v₂) (key (w + 2) 9)) (over_key z v₁ v₂ w))
       → TermSeen code e T T z r
   unfolding term_codes term_kind term_key
-  term-empty-pairs n r x₁ x₂ v₁ v₂ w₁ w₂ k₁ k₂ f₁ f₂ f₃ m b₁ b₂ hn q s xq₁ xq₂ vq₁ vq₂ wq₁ wq₂ bq₁ bq₂ eq₁ eq₂ kq fq₁ fq₂ fq₃ mq fq =
+  term-empty-pairs n r x₁ x₂ v₁ v₂ w k₁ k₂ hn q s xq₁ xq₂ vq₁ vq₂ wq eq₁ eq₂ kq fq =
       term-from code e l T z 10 T r (omega arith) refl q
       (λ g g' i ρ base y.
       let h = last-node code e l base 10 i (name_number ρ g) (name_number ρ g') y in
       let p₁ : v₁ ≡ entry T (name_number ρ g) = vq₁ ∙ ap (entry T) (xq₁ ∙ hn.first_is ∙ h.is_first) in
       let p₂ : v₂ ≡ entry T (name_number ρ g') = vq₂ ∙ ap (entry T) (xq₂ ∙ hn.second_is ∙ h.is_second) in
-      let at : n.place ≡ i = hn.place_is ∙ h.is_place in
+      let faults : ℕ → ℕ → ℕ → ℕ = λ j x y. lesser (unless_key (is_given x) (key (j + 1) 9)) (lesser (unless_key (is_given y) (key (j + 2) 9)) (over_key z x y j)) in
       record {
         kind_is = kq ∙ ap₂ pair_of (eq₁ ∙ ap element_of p₁) (eq₂ ∙ ap element_of p₂);
-        fault_is = fq ∙ ap₂ lesser (fq₁ ∙ seen-unless 9 (bq₁ ∙ ap is_given p₁) (ap (λ (j : ℕ). j + 1) (wq₁ ∙ at)))
-            (mq ∙ ap₂ lesser (fq₂ ∙ seen-unless 9 (bq₂ ∙ ap is_given p₂) (ap (λ (j : ℕ). j + 2) (wq₂ ∙ at)))
-            (fq₃ ∙ ap₂ (λ (x y : ℕ). over_key z x y n.place) p₁ p₂ ∙ ap (over_key z (entry T (name_number ρ g)) (entry T (name_number ρ g'))) at));
+        fault_is = fq ∙ ap (λ (j : ℕ). faults j v₁ v₂) (wq ∙ hn.place_is ∙ h.is_place) ∙ ap₂ (faults i) p₁ p₂;
         start_is = s ∙ sym h.long;
       })
 
@@ -160,25 +159,35 @@ module _ (code : List ℕ) (e : ℕ) (l : e ≤ length code) (T : Names) (z : Si
         start_is = sq ∙ s.start_is;
       })
 
+  -- two terms, one behind the other
+  pub sides-seen : (U W : Names) (v u : Seen) (r : Sides) → TermSeen code e T U z u → TermSeen code u.start U W z v
+      → r.first ≡ v.kind → r.second ≡ u.kind → r.start ≡ v.start → fault_key r.fault ≡ lesser (fault_key v.fault) (fault_key u.fault) → SidesSeen code e T W z r
+  sides-seen U W v u r hu hv₀ kq lq sq fq = record {
+    falls = let f = hu.falls in let g = hv₀.falls in omega arith;
+    kept = hv₀.kept ∙ hu.kept;
+    right = λ t₁ t₂ i j ρ base y.
+        let hv : TermSeen code u.start T W z v = subst (λ (X : Names). TermSeen code u.start X W z v) hu.kept hv₀ in
+        let s₂ = hu.right t₂ j ρ (base ++ term_codes t₁ i ρ) y in
+        let s₁ = hv.right t₁ i ρ base (middle code e u.start (base ++ term_codes t₁ i ρ) (term_codes t₂ j ρ) y hu.falls s₂.start_is) in
+        record { first_is = kq ∙ s₁.kind_is; second_is = lq ∙ s₂.kind_is; fault_is = fq ∙ ap₂ lesser s₁.fault_is s₂.fault_is; start_is = sq ∙ s₁.start_is };
+  }
+
   -- t and u, with an operator between them
-  pub term-binary : (U W : Names) (n : Node) (v u r : Seen) (b : Bool) (m : ℕ) → NodeAt code e n → get_or code (e - 4 + 3) 0 ≡ 5
-      → TermSeen code (e - 4) T U z u → TermSeen code u.start U W z v
-      → OperatorFits n.a v.kind u.kind b → m ≡ lesser (fault_key v.fault) (fault_key u.fault)
-      → r.kind ≡ v.kind → r.start ≡ v.start → fault_key r.fault ≡ judged_key b (key n.place 10) m
-      → TermSeen code e T W z r
+  pub term-binary : (U : Names) (n : Node) (v : Sides) (r : Seen) (b : Bool) → NodeAt code e n → get_or code (e - 4 + 3) 0 ≡ 5
+      → SidesSeen code (e - 4) T U z v → OperatorFits n.a v.first v.second b
+      → r.kind ≡ v.first → r.start ≡ v.start → fault_key r.fault ≡ judged_key b (key n.place 10) (fault_key v.fault)
+      → TermSeen code e T U z r
   unfolding term_codes term_kind term_key
-  term-binary U W n v u r b m hn q hu hv₀ bq mq kq sq fq =
-      let hv : TermSeen code u.start T W z v = subst (λ (X : Names). TermSeen code u.start X W z v) hu.kept hv₀ in
-      term-from code e l T z 5 W r (let f = hu.falls in let g = hv.falls in omega arith) hv.kept q
+  term-binary U n v r b hn q hv bq kq sq fq =
+      term-from code e l T z 5 U r (let f = hv.falls in omega arith) hv.kept q
       (λ o t₁ t₂ i ρ base y.
-      let h = two-parts code e l base (term_codes t₁ i ρ) (term_codes t₂ (suc (i + term_width t₁)) ρ) 5 (i + term_width t₁) (code_of (operator_kind o)) 0 y in
-      let s₂ = hu.right t₂ (suc (i + term_width t₁)) ρ (base ++ term_codes t₁ i ρ) h.before in
-      let s₁ = hv.right t₁ i ρ base (middle code (e - 4) u.start (base ++ term_codes t₁ i ρ) (term_codes t₂ (suc (i + term_width t₁)) ρ) h.before hu.falls s₂.start_is) in
+      let j : ℕ = suc (i + term_width t₁) in
+      let h = two-parts code e l base (term_codes t₁ i ρ) (term_codes t₂ j ρ) 5 (i + term_width t₁) (code_of (operator_kind o)) 0 y in
+      let s = hv.right t₁ t₂ i j ρ base h.before in
       record {
-        kind_is = kq ∙ s₁.kind_is;
-        fault_is = fq ∙ seen-judged (bq o (sym (hn.first_is ∙ h.is_first)) ∙ ap₂ (operator_fits o) s₁.kind_is s₂.kind_is) (hn.place_is ∙ h.is_place)
-            (mq ∙ ap₂ lesser s₁.fault_is s₂.fault_is);
-        start_is = sq ∙ s₁.start_is;
+        kind_is = kq ∙ s.first_is;
+        fault_is = fq ∙ seen-judged (bq o (sym (hn.first_is ∙ h.is_first)) ∙ ap₂ (operator_fits o) s.first_is s.second_is) (hn.place_is ∙ h.is_place) s.fault_is;
+        start_is = sq ∙ s.start_is;
       })
 
   -- a name bound for a predicate, and what it was behind it
@@ -271,17 +280,14 @@ module _ (code : List ℕ) (e : ℕ) (l : e ≤ length code) (T : Names) (z : Si
           let s₁ = hv.right t i ρ base (middle code (e - 4) u.start (base ++ term_codes t i ρ) (items_codes ts (suc (i + term_width t)) ρ) h.before hu.falls s₂.start_is) in
           record { kind_is = kq ∙ ap₂ shared s₁.kind_is s₂.kind_is; fault_is = fq ∙ ap₂ lesser s₁.fault_is s₂.fault_is; start_is = sq ∙ s₁.start_is }
 
-  -- two terms; the pairs of a brace
-  pub pair-seen : (U W : Names) (v u r : Seen) → TermSeen code e T U z u → TermSeen code u.start U W z v
-      → r.kind ≡ pair_of v.kind u.kind → r.start ≡ v.start → fault_key r.fault ≡ lesser (fault_key v.fault) (fault_key u.fault) → PairSeen code e T W z r
-  pair-seen U W v u r hu hv₀ kq sq fq = record {
-    falls = let f = hu.falls in let g = hv₀.falls in omega arith;
-    kept = hv₀.kept ∙ hu.kept;
+  -- a pair of a brace; its pairs
+  pub pair-seen : (U : Names) (v : Sides) (r : Seen) → SidesSeen code e T U z v
+      → r.kind ≡ pair_of v.first v.second → r.start ≡ v.start → fault_key r.fault ≡ fault_key v.fault → PairSeen code e T U z r
+  pair-seen U v r hv kq sq fq = record {
+    falls = let f = hv.falls in omega arith;
+    kept = hv.kept;
     right = λ t₁ t₂ i j ρ base y.
-        let hv : TermSeen code u.start T W z v = subst (λ (X : Names). TermSeen code u.start X W z v) hu.kept hv₀ in
-        let s₂ = hu.right t₂ j ρ (base ++ term_codes t₁ i ρ) y in
-        let s₁ = hv.right t₁ i ρ base (middle code e u.start (base ++ term_codes t₁ i ρ) (term_codes t₂ j ρ) y hu.falls s₂.start_is) in
-        record { kind_is = kq ∙ ap₂ pair_of s₁.kind_is s₂.kind_is; fault_is = fq ∙ ap₂ lesser s₁.fault_is s₂.fault_is; start_is = sq ∙ s₁.start_is };
+        let s = hv.right t₁ t₂ i j ρ base y in record { kind_is = kq ∙ ap₂ pair_of s.first_is s.second_is; fault_is = fq ∙ s.fault_is; start_is = sq ∙ s.start_is };
   }
 
   pub pairs-only : (U : Names) (v : Seen) → PairSeen code (e - 4) T U z v → get_or code (e - 4 + 3) 0 ≡ 1 → PairsSeen code e T U z v

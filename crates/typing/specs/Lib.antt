@@ -1,2 +1,3 @@
 pub mod BoundPromise
 pub mod EndedNodes
+pub mod SidesPromise

@@ -1,18 +1,19 @@
 // The walk over the nodes of terms and predicates, from their ends: a binder is met before what stands in its reach. One cycle of functions, in one file.
 // Each function reads the tree in which its nodes end; where a part ends is known only behind the one that follows it.
-// Form 5: nodes and sizes go together, but the nodes are cut at each call: a struct of both would be made there, `&Reading { code: &r.code[..at], sizes: r.sizes }` for `&code[..at]`
-// and `sizes`.
+// Form 5: nodes and sizes go together, but the nodes are cut at 13 places, where a struct of both would be made anew, `&Reading { code: &r.code[..at], sizes: r.sizes }` for `&code[..at]`
+// and `sizes`. Names are written and sizes read: a struct of both would be lent to be written, and each function would promise besides that the sizes stay.
 ghost use Rattle.std.specs.Prelude.{◌≡◌, ◌+◌, length};
-ghost use Rattle.type_rules.specs.TypesByNumber.{DomainSeen, TermSeen, ItemsSeen, PairSeen, PairsSeen, PredSeen, PrefixFits, PrefixType, OperatorFits, ComparisonFits};
+ghost use Rattle.type_rules.specs.TypesByNumber.{fault_key, key, judged_key, Saw, DomainSeen, TermSeen, ItemsSeen, PairSeen, PairsSeen, PredSeen, PrefixFits, PrefixType, OperatorFits, ComparisonFits};
 ghost use Rattle.typing.specs.BoundPromise.{BoundSeen};
 ghost use Rattle.typing.specs.EndedNodes.{ended};
+ghost use Rattle.typing.specs.SidesPromise.{SidesSeen};
 ghost use Rattle.type_rules.specs.declared.Node.{Node};
 
 use form::{node, operator_codes, shapes};
-use refusals::Refusal;
+use refusals::{Fault, Refusal};
 use type_rules::entries::Kind;
 use type_rules::kinds::{
-    bound_fault, brace_fault, entry, judge, last_node, lesser_of, member_fits, over_fault, put,
+    bound_fault, brace_fault, entry, judge, last_node, lesser_of, member_fits, pairs_fault, put,
     range_fits, related_fits, shared_kind, unless,
 };
 use type_rules::{Node, Seen, entries};
@@ -60,7 +61,7 @@ fn comparison_fits(o: u16, k: Kind, l: Kind) -> bool
 }
 
 // No nodes of a tree end here.
-// Form 1: the nodes are always those of trees, so that this is never read; with an Option the 27 calls that go on in the walk would each take a `?` for a case that does not come, and
+// Form 1: the nodes are always those of trees, so that this is never read; with an Option the 24 calls that go on in the walk would each take a `?` for a case that does not come, and
 // the one that binds a name would put it back before that.
 fn nothing() -> Seen
     ensures { result.start ≡ 0 }
@@ -165,14 +166,50 @@ fn empty_pairs(front: &[u16], n: Node, names: &[Kind], sizes: &[u16]) -> Seen
     let g = entry(names, usize::from(n.a));
     let h = entry(names, usize::from(n.b));
     let i = usize::from(n.place);
-    let first = unless(g.is_given(), i + 1, Refusal::NameUnknown);
-    let second = unless(h.is_given(), i + 2, Refusal::NameUnknown);
-    let over = over_fault(sizes, g, h, i);
-    let fault = lesser_of(first, lesser_of(second, over));
     Seen {
         kind: g.element_of().pair_with(h.element_of()),
-        fault,
+        fault: pairs_fault(sizes, g, h, i + 1, i + 2, i),
         start: front.len(),
+    }
+}
+
+// Two terms, one behind the other: their types, the lesser fault of both, and where the nodes of the first begin.
+#[derive(Clone, Copy)]
+struct Sides {
+    first: Kind,
+    second: Kind,
+    fault: Option<Fault>,
+    start: usize,
+}
+
+impl Sides {
+    // A whole of this type at the node n, where the two fit.
+    // Form 7: `fits` is what a test of the two types says, as in `judge`; as a closure it would be written `|| ..` at each of the three calls.
+    fn whole(self, kind: Kind, fits: bool, n: Node) -> Seen
+        ensures { Saw result kind (judged_key fits (key n.place 10) (fault_key self.fault)) self.start }
+    {
+        let fault = judge(fits, n.place, Refusal::TypesMisfit, self.fault);
+        Seen {
+            kind,
+            fault,
+            start: self.start,
+        }
+    }
+}
+
+// Two terms, one behind the other.
+#[cycle(types)]
+fn two_terms(code: &[u16], names: &mut [Kind], sizes: &[u16]) -> Sides
+    ensures { SidesSeen code.now (length code.now) names.old names.new sizes.now result }
+{
+    let u = term(code, names, sizes);
+    let t = term(&code[..u.start], names, sizes);
+    let fault = lesser_of(t.fault, u.fault);
+    Sides {
+        first: t.kind,
+        second: u.kind,
+        fault,
+        start: t.start,
     }
 }
 
@@ -224,20 +261,9 @@ fn divided(front: &[u16], n: Node, names: &mut [Kind], sizes: &[u16]) -> Seen
 fn joined(front: &[u16], n: Node, names: &mut [Kind], sizes: &[u16]) -> Seen
     ensures { TermSeen (ended front.now 5 n) (length front.now + 4) names.old names.new sizes.now result }
 {
-    let u = term(front, names, sizes);
-    let t = term(&front[..u.start], names, sizes);
-    let parts = lesser_of(t.fault, u.fault);
-    let fault = judge(
-        operator_fits(n.a, t.kind, u.kind),
-        n.place,
-        Refusal::TypesMisfit,
-        parts,
-    );
-    Seen {
-        kind: t.kind,
-        fault,
-        start: t.start,
-    }
+    let s = two_terms(front, names, sizes);
+    let fits = operator_fits(n.a, s.first, s.second);
+    s.whole(s.first, fits, n)
 }
 
 // {x : G | p}.
@@ -345,18 +371,16 @@ fn pairs(code: &[u16], names: &mut [Kind], sizes: &[u16]) -> Seen
     }
 }
 
-// Two terms, one behind the other.
+// A pair of a brace: two terms, one behind the other.
 #[cycle(types)]
 fn pair(code: &[u16], names: &mut [Kind], sizes: &[u16]) -> Seen
     ensures { PairSeen code.now (length code.now) names.old names.new sizes.now result }
 {
-    let u = term(code, names, sizes);
-    let t = term(&code[..u.start], names, sizes);
-    let fault = lesser_of(t.fault, u.fault);
+    let s = two_terms(code, names, sizes);
     Seen {
-        kind: t.kind.pair_with(u.kind),
-        fault,
-        start: t.start,
+        kind: s.first.pair_with(s.second),
+        fault: s.fault,
+        start: s.start,
     }
 }
 
@@ -408,20 +432,9 @@ fn connected(front: &[u16], names: &mut [Kind], sizes: &[u16]) -> Seen
 fn compared(front: &[u16], n: Node, names: &mut [Kind], sizes: &[u16]) -> Seen
     ensures { PredSeen (ended front.now 4 n) (length front.now + 4) names.old names.new sizes.now result }
 {
-    let u = term(front, names, sizes);
-    let t = term(&front[..u.start], names, sizes);
-    let parts = lesser_of(t.fault, u.fault);
-    let fault = judge(
-        comparison_fits(n.a, t.kind, u.kind),
-        n.place,
-        Refusal::TypesMisfit,
-        parts,
-    );
-    Seen {
-        kind: entries::NONE,
-        fault,
-        start: t.start,
-    }
+    let s = two_terms(front, names, sizes);
+    let fits = comparison_fits(n.a, s.first, s.second);
+    s.whole(entries::NONE, fits, n)
 }
 
 // t in u.
@@ -429,20 +442,9 @@ fn compared(front: &[u16], n: Node, names: &mut [Kind], sizes: &[u16]) -> Seen
 fn member(front: &[u16], n: Node, names: &mut [Kind], sizes: &[u16]) -> Seen
     ensures { PredSeen (ended front.now 5 n) (length front.now + 4) names.old names.new sizes.now result }
 {
-    let u = term(front, names, sizes);
-    let t = term(&front[..u.start], names, sizes);
-    let parts = lesser_of(t.fault, u.fault);
-    let fault = judge(
-        member_fits(t.kind, u.kind),
-        n.place,
-        Refusal::TypesMisfit,
-        parts,
-    );
-    Seen {
-        kind: entries::NONE,
-        fault,
-        start: t.start,
-    }
+    let s = two_terms(front, names, sizes);
+    let fits = member_fits(s.first, s.second);
+    s.whole(entries::NONE, fits, n)
 }
 
 // t in a..b.
@@ -467,11 +469,10 @@ fn related(front: &[u16], n: Node, names: &mut [Kind], sizes: &[u16]) -> Seen
     ensures { PredSeen (ended front.now 7 n) (length front.now + 4) names.old names.new sizes.now result }
 {
     let v = term(front, names, sizes);
-    let u = term(&front[..v.start], names, sizes);
-    let t = term(&front[..u.start], names, sizes);
-    let parts = lesser_of(lesser_of(t.fault, u.fault), v.fault);
+    let s = two_terms(&front[..v.start], names, sizes);
+    let parts = lesser_of(s.fault, v.fault);
     let fault = judge(
-        related_fits(t.kind, u.kind, v.kind),
+        related_fits(s.first, s.second, v.kind),
         n.place,
         Refusal::TypesMisfit,
         parts,
@@ -479,7 +480,7 @@ fn related(front: &[u16], n: Node, names: &mut [Kind], sizes: &[u16]) -> Seen
     Seen {
         kind: entries::NONE,
         fault,
-        start: t.start,
+        start: s.start,
     }
 }
 

@@ -14,7 +14,7 @@ use Rattle.meaning.proofs.FormTable.{◌&◌}
 use Rattle.meaning.specs.StaticRulesCarriers.{Variable}
 use Rattle.meaning.specs.StaticRulesScope.{Context, unprimed, primed, inputs, outputs, given_names, abstract_taken, concrete_taken}
 use Rattle.meaning.specs.StaticRulesScope.{operation_reach, operation_contexts, contexts}
-use Rattle.meaning.specs.StaticRulesNames.{declaration_faults, given_faults, operation_faults, context_faults, name_faults}
+use Rattle.meaning.specs.StaticRulesNames.{given_faults, context_faults, name_faults}
 use Rattle.meaning.specs.StaticRulesLimits.{context_sizes, size_faults}
 use Rattle.meaning.specs.Bindings.{Among}
 use Rattle.meaning.proofs.Places.{entry-member}
@@ -24,6 +24,7 @@ use Rattle.value_types.specs.FaultlessContexts.{ContextFine, FewElements, Declar
 use Rattle.value_types.proofs.GivenTitles.{few-elements, title-finds}
 use Rattle.value_types.proofs.DeclaredCarriers.{HaveCarriers, declarations_of, declarations-carry, operations-carry, variables-fit, parameters-fit, fit_append}
 use Rattle.refusals.proofs.FaultLists.{append_nil-both}
+use Rattle.meaning.proofs.StaticRulesFaultless.{faultless}
 
 -- ---- a dossier's parts
 
@@ -35,22 +36,14 @@ pub record DossierFaultless (d : Dossier) : Type 0 where
   pub predicates : concat (map context_faults (contexts d)) ≡ []
 
 pub dossier-faultless : (d : Dossier) → name_faults d ≡ [] → DossierFaultless d
-unfolding name_faults
 dossier-faultless d e =
-    let g : List Fault = given_faults [] (givens_at d) d.givens in
-    let a : List Fault = declaration_faults d.givens (given_names d.givens) (suc (abstract_at d)) (declarations d.abstract) in
-    let c : List Fault = declaration_faults d.givens (abstract_taken d) (suc (concrete_at d)) (declarations d.concrete) in
-    let o : List Fault = operation_faults d.givens (concrete_taken d) (operations_at d) d.operations in
-    let s = append_nil-both (g ++ a ++ c ++ o) (concat (map context_faults (contexts d))) e in
-    let r = append_nil-both (g ++ a ++ c) o s.0 in
-    let q = append_nil-both (g ++ a) c r.0 in
-    let p = append_nil-both g a q.0 in
+    let f = faultless d e in
     record {
-      givens = p.0;
-      abstract = declarations-carry d.givens (given_names d.givens) (suc (abstract_at d)) (declarations d.abstract) p.1;
-      concrete = declarations-carry d.givens (abstract_taken d) (suc (concrete_at d)) (declarations d.concrete) q.1;
-      parameters = operations-carry d.givens (concrete_taken d) (operations_at d) d.operations r.1;
-      predicates = s.1;
+      givens = f.givens_new;
+      abstract = declarations-carry d.givens (given_names d.givens) (suc (abstract_at d)) (declarations d.abstract) f.abstract_new;
+      concrete = declarations-carry d.givens (abstract_taken d) (suc (concrete_at d)) (declarations d.concrete) f.concrete_new;
+      parameters = operations-carry d.givens (concrete_taken d) (operations_at d) d.operations f.operations_new;
+      predicates = f.contexts_clear;
     }
 
 -- a part of a whole without faults

@@ -3,19 +3,17 @@ use mathlib.Core.Path.{◌≡◌, refl, sym, subst}
 use mathlib.Core.Logic.{◌⊎◌, inl, inr}
 use mathlib.Core.List.{List, [], ◌++◌}
 use mathlib.Core.Option.{some}
-use Prim.Native.Nat.{ℕ, ◌-◌, ◌/◌, ◌%◌, ◌<◌, ◌≤◌}
+use Prim.Native.Nat.{ℕ, ◌+◌, ◌-◌, ◌*◌, ◌/◌, ◌<◌, ◌≤◌}
 use native.Mathlib.Omega.{arith}
-use native.Mathlib.Decide.{dec_lt}
-use lib.ListN.{length, get_elem?}
+use lib.ListN.{get_elem?}
 use lib.IntN.{ℤ}
 use Rattle.form.specs.Tree.{Operation, Dossier}
 use Rattle.static_rules.specs.Carriers.{Variable}
 use Rattle.static_rules.specs.Scope.{unprimed, inputs, outputs}
 use Rattle.static_rules.specs.Limits.{binding_count}
-use Rattle.meaning.proofs.Places.{below-entry}
 use Rattle.slot_carriers.specs.CellGroups.{CellsOf}
 use Rattle.plans.specs.declared.Part.{Part}
-use Rattle.part_places.specs.PartTestsPartGroups.{StateCells, OperationCells, opening_part, applicability_part, correctness_part}
+use Rattle.part_places.specs.PartTestsPartGroups.{StateCells, OperationCells, size_of, no_variables, opening_part, applicability_part, correctness_part}
 use Rattle.labels.specs.ReadingsReadings.{GroupAt}
 use Rattle.pieces.specs.PiecePromises.{Adds}
 use Rattle.pieces.specs.declared.Writer.{Writer}
@@ -24,7 +22,7 @@ use Rattle.lexical.specs.SymbolPromises.{ending_is}
 use Rattle.lexical.specs.declared.Ending.{Ending}
 use Rattle.lines.specs.LinesByNumber.{ending_byte, group_piece}
 use Rattle.part_places.specs.Places.{GroupsOf, parts, PartAsked, PartSet}
-use Rattle.part_places.proofs.PartCounts.{sized}
+use Rattle.part_places.proofs.PartCounts.{sized, by-kind}
 use Rattle.part_places.proofs.PartsPartNumbers.{part-applies, part-corrects}
 use Rattle.held_checks.specs.declared.Obligation.{Obligation}
 use Rattle.held_checks.specs.declared.Obligation.TheVariants.{Applicability, Correctness}
@@ -38,6 +36,11 @@ pub group-as : (text labels : List ℕ) (σ : List ℤ) {i n s i' n' s' : ℕ} {
 group-as text labels σ {v = v} {w} h a =
     subst (λ (p : List ℕ). Adds p v w) (λ k. group_piece text labels (h.0 k) (h.1 k) (h.2 k) (ending_byte (ending_is (h.3 k))) σ) a
 
+-- and they fit where the group of those numbers does
+pub group-fits : {i n s i' n' s' : ℕ} {e e' : Ending} (at long : ℕ) → (i ≡ i') × (n ≡ n') × (s ≡ s') × (e ≡ e') → i' + n' ≤ 160 → s' + n' ≤ 64 → at + 645 * n' ≤ long
+    → (i + n ≤ 160) × (s + n ≤ 64) × (at + 645 * n ≤ long)
+group-fits at long h a b r = (omega (arith, h.0, h.1), omega (arith, h.1, h.2), omega (arith, h.1))
+
 -- five pieces one behind the other
 pub five-written : {p q s t u : List ℕ} {v₀ v₁ v₂ v₃ v₄ v₅ : Writer} → Adds p v₀ v₁ → Adds q v₁ v₂ → Adds s v₂ v₃ → Adds t v₃ v₄ → Adds u v₄ v₅
     → Adds (p ++ (q ++ (s ++ (t ++ u)))) v₀ v₅
@@ -45,22 +48,22 @@ five-written f g h i j = both-added f (both-added g (both-added h (both-added i 
 
 -- ---- asked of a part that is set up
 
-no_variables : {cells : List ℕ} {s many : ℕ} → SizedAt cells s many 0 1
+none-sized : {cells : List ℕ} {s many : ℕ} → SizedAt cells s many no_variables
 unfolding CellsOf binding_count
-no_variables = record { grouped = record { group = []; each = tt; long = refl; few = omega arith }; count = refl; short = omega arith }
+none-sized = record { grouped = record { group = []; each = tt; long = refl; few = omega arith }; count = refl; short = omega arith }
 
 sized_at : {table groups cells : List ℕ} {row s many few : ℕ} {vs : List Variable} → CellsOf cells s vs → GroupAt table groups row vs many few → few ≤ 4096
-    → SizedAt cells s many (length vs) (binding_count vs)
+    → SizedAt cells s many (size_of vs)
 sized_at {vs = vs} c g l = record { grouped = record { group = vs; each = c; long = refl; few = omega (arith, g.bindings) }; count = refl; short = g.short }
 
 module _ {table groups cells : List ℕ} {d : Dossier} (G : GroupsOf table groups d) where
   opening-parted : StateCells cells (unprimed d d.abstract) (unprimed d d.concrete) → PartSized cells (opening_part (unprimed d d.abstract) (unprimed d d.concrete))
   opening-parted C = record {
-    abstracts = no_variables;
+    abstracts = none-sized;
     concretes = sized_at C.concretes G.concretes (omega arith);
-    inputs = no_variables;
-    outputs = no_variables;
-    primes = no_variables;
+    inputs = none-sized;
+    outputs = none-sized;
+    primes = none-sized;
   }
 
   module _ (j : ℕ) (op : Operation) (listed : get_elem? d.operations j ≡ some op)
@@ -70,8 +73,8 @@ module _ {table groups cells : List ℕ} {d : Dossier} (G : GroupsOf table group
       abstracts = sized_at C.states.abstracts G.abstracts (omega arith);
       concretes = sized_at C.states.concretes G.concretes (omega arith);
       inputs = sized_at C.inputs (G.inputs_at j op listed) (omega arith);
-      outputs = no_variables;
-      primes = no_variables;
+      outputs = none-sized;
+      primes = none-sized;
     }
 
     correctness-parted : PartSized cells (correctness_part (unprimed d d.abstract) (unprimed d d.concrete) (inputs d op) (outputs d op))
@@ -84,19 +87,7 @@ module _ {table groups cells : List ℕ} {d : Dossier} (G : GroupsOf table group
     }
 
 parted : {table groups cells : List ℕ} {k : ℕ} {p : Part} → PartSet table groups k cells p → (d : Dossier) → GroupsOf table groups d → k < parts d → PartSized cells p
-parted {cells = cells} {k = k} {p = p} P d G h = elim (dec_lt k 1) [ yes e ↦ opening (omega arith) | no e ↦ operation (omega arith) ]
-  where
-    opening : k ≡ 0 → PartSized cells p
-    opening e = let t = P.opening d G e in subst (PartSized cells) (sym t.1) (opening-parted G t.0)
-
-    operation : 1 ≤ k → PartSized cells p
-    operation l =
-        let n : ℕ = (k - 1) / 2 in
-        let o : (op : Operation) × (get_elem? d.operations n ≡ some op) = below-entry d.operations n (omega arith) in
-        elim (dec_lt ((k - 1) % 2) 1) [
-          | yes e ↦ (let t = P.applying d G n o.0 o.1 (omega arith) in subst (PartSized cells) (sym t.1) (applicability-parted G n o.0 o.1 t.0))
-          | no e ↦ (let t = P.correcting d G n o.0 o.1 (omega arith) in subst (PartSized cells) (sym t.1) (correctness-parted G n o.0 o.1 t.0))
-        ]
+parted {cells = cells} P d G h = by-kind P d G h (λ k p. PartSized cells p) (opening-parted G) (applicability-parted G) (correctness-parted G)
 
 -- the operation of a part by its obligation
 pub operation-of : {k : ℕ} {r : Obligation} → PartTold k r → (j : ℕ) → (r ≡ Applicability j) ⊎ (r ≡ Correctness j) → j ≡ (k - 1) / 2

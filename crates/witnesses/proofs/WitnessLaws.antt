@@ -2,8 +2,8 @@
 use mathlib.Core.Path.{◌≡◌, refl, sym, ap, ap₂, subst, ◌∙◌}
 use mathlib.Core.List.{List, [], ◌∷◌, ◌++◌, append_assoc, append-nil}
 use mathlib.Core.Option.{some}
-use Prim.Native.Nat.{ℕ, zero, suc, ◌+◌, ◌-◌, ◌*◌, ◌/◌, ◌%◌, ◌<◌, ◌≤◌}
-use native.Mathlib.Nat.{div-one, mod-eq_of_lt, mod-lt, zero-lt-suc}
+use Prim.Native.Nat.{ℕ, suc, ◌+◌, ◌-◌, ◌*◌, ◌/◌, ◌%◌, ◌<◌, ◌≤◌}
+use native.Mathlib.Nat.{div-one, mod-eq_of_lt}
 use native.Mathlib.Omega.{arith}
 use lib.IntN.{ℤ}
 use lib.ListN.{length, get_elem?}
@@ -15,9 +15,7 @@ use Rattle.static_rules.specs.Limits.{binding_count}
 use Rattle.meaning.specs.Meaning.{Binding}
 use Rattle.meaning.specs.Bindings.{bindings}
 use Rattle.meaning.specs.Operations.{after}
-use Rattle.meaning.proofs.Places.{below-entry}
-use Rattle.carriers.specs.ValuesByNumber.{binding_at}
-use Rattle.carriers.proofs.Bindings.{bindings-at}
+use Rattle.carriers.proofs.Bindings.{binding-long}
 use Rattle.slot_carriers.specs.CellGroups.{HoldsBinding}
 use Rattle.obligations.specs.Subjects.{subject_of}
 use Rattle.obligations.specs.Order.{variables_of, binding_of, applies}
@@ -34,6 +32,7 @@ use Rattle.labels.specs.Labels.{LabelsFrom, LabelsOf}
 use Rattle.lines.specs.LinesByNumber.{group_piece}
 use Rattle.lines.proofs.LabelledLines.{left, state-lines, primed-lines, input-lines, output-lines}
 use Rattle.part_places.specs.Places.{GroupsOf, parts, PartSet}
+use Rattle.part_places.proofs.PartCounts.{by-kind}
 use Rattle.witnesses.specs.WitnessPromises.{AddsWitness}
 use Rattle.witnesses.specs.WitnessSteps.{BoundAt, part_piece}
 use Rattle.witnesses.proofs.CheckDigits.{digit-in, front-in, us, cs, na, nc, ni, nq}
@@ -50,14 +49,6 @@ lines_join (v ∷ xs) ys (x ∷ a) b e =
     let z : suc (length a) ≡ suc (length xs) = e in
     let line : List ℕ = name_bytes v.called ++ bytes " = " ++ value_bytes v.carrier x.1 ++ bytes "\n" in
     ap (λ (l : List ℕ). line ++ l) (lines_join xs ys a b (omega arith)) ∙ sym (append_assoc line (binding_lines xs a) (binding_lines ys b))
-
-digits_long : (vs : List Variable) (k : ℕ) → length (binding_at vs k) ≡ length vs
-unfolding binding_at
-digits_long [] k = refl
-digits_long (v ∷ vs) k = ap suc (digits_long vs k)
-
-pub binding-long : (vs : List Variable) (k : ℕ) → k < binding_count vs → length (nth (bindings vs) k) ≡ length vs
-binding-long vs k h = ap length (bindings-at vs k [] h) ∙ digits_long vs k
 
 -- the lines of the k-th binding of a group, before others
 join-at : (vs ys : List Variable) (k : ℕ) (b : Binding) → k < binding_count vs → binding_lines (vs ++ ys) (nth (bindings vs) k ++ b) ≡ binding_lines vs (nth (bindings vs) k) ++ binding_lines ys b
@@ -176,55 +167,26 @@ module _ (text labels : List ℕ) (d : Dossier) (L : LabelsOf text labels d) (ce
 
 -- ---- each part by its number
 
-module _ (text labels table groups cells : List ℕ) (d : Dossier) (L : LabelsOf text labels d) (G : GroupsOf table groups d) (q row : ℕ) (p : Part) (σ : List ℤ) where
-  -- the witness at the place q of the k-th part
-  abbrev WitnessOf : ℕ → Type 0
-  WitnessOf k = part_piece text labels p row σ ≡ witness_lines (subject_of d) (check_at (subject_of d) (part_begin d k + q))
+module _ (text labels table groups cells : List ℕ) (d : Dossier) (L : LabelsOf text labels d) (G : GroupsOf table groups d) (q row : ℕ) (σ : List ℤ) where
+  -- the witness at the place q of the k-th part, which this is, with its operation's row
+  abbrev WitnessOf : (k : ℕ) → Part → Type 0
+  WitnessOf k p = BoundAt cells p q σ → row ≡ 8 * ((k - 1) / 2) → q < part_size d k → part_piece text labels p row σ ≡ witness_lines (subject_of d) (check_at (subject_of d) (part_begin d k + q))
 
-  first_part : (k : ℕ) → PartSet table groups k cells p → BoundAt cells p q σ → k ≡ 0 → q < part_size d 0 → WitnessOf 0
-  first_part k P B e h =
-      let t = P.opening d G e in
-      ap (λ (x : Part). part_piece text labels x row σ) t.1
-      ∙ opening-witness text labels d L cells q σ row t.0 (subst (λ (x : Part). BoundAt cells x q σ) t.1 B) (subst (λ (n : ℕ). q < n) (first-size d ∙ concretes-count d) h)
+  opening-lines : StateCells cells (us d) (cs d) → WitnessOf 0 (opening_part (us d) (cs d))
+  opening-lines C B r h = opening-witness text labels d L cells q σ row C B (subst (λ (n : ℕ). q < n) (first-size d ∙ concretes-count d) h)
 
-  module _ (j : ℕ) (op : Operation) (listed : get_elem? d.operations j ≡ some op) (r : row ≡ 8 * j) where
-    applying-part : (k : ℕ) → PartSet table groups k cells p → BoundAt cells p q σ → k ≡ 1 + 2 * j → q < part_size d (1 + 2 * j) → WitnessOf (1 + 2 * j)
-    applying-part k P B e h =
-        let t = P.applying d G j op listed e in
-        ap (λ (x : Part). part_piece text labels x row σ) t.1
-        ∙ applicability-witness text labels d L cells q σ j row op listed r t.0 (subst (λ (x : Part). BoundAt cells x q σ) t.1 B)
-        (subst (λ (n : ℕ). q < n) (applicability-size d j op listed ∙ applicability-counts d op) h)
+  module _ (j : ℕ) (op : Operation) (listed : get_elem? d.operations j ≡ some op) (C : OperationCells cells (us d) (cs d) (inputs d op) (outputs d op)) where
+    applying-lines : WitnessOf (1 + 2 * j) (applicability_part (us d) (cs d) (inputs d op) (outputs d op))
+    applying-lines B r h =
+        applicability-witness text labels d L cells q σ j row op listed (omega arith) C B (subst (λ (n : ℕ). q < n) (applicability-size d j op listed ∙ applicability-counts d op) h)
 
-    correcting-part : (k : ℕ) → PartSet table groups k cells p → BoundAt cells p q σ → k ≡ 2 + 2 * j → q < part_size d (2 + 2 * j) → WitnessOf (2 + 2 * j)
-    correcting-part k P B e h =
-        let t = P.correcting d G j op listed e in
-        ap (λ (x : Part). part_piece text labels x row σ) t.1
-        ∙ correctness-witness text labels d L cells q σ j row op listed r t.0 (subst (λ (x : Part). BoundAt cells x q σ) t.1 B)
-        (subst (λ (n : ℕ). q < n) (correctness-size d j op listed ∙ correctness-counts d op) h)
+    correcting-lines : WitnessOf (2 + 2 * j) (correctness_part (us d) (cs d) (inputs d op) (outputs d op))
+    correcting-lines B r h =
+        correctness-witness text labels d L cells q σ j row op listed (omega arith) C B (subst (λ (n : ℕ). q < n) (correctness-size d j op listed ∙ correctness-counts d op) h)
 
-  -- a part is the first, or one of the two of an operation
-  pub witness-lines : (k : ℕ) → PartSet table groups k cells p → BoundAt cells p q σ → row ≡ 8 * ((k - 1) / 2) → k < parts d → q < part_size d k
+  pub witness-lines : {k : ℕ} {p : Part} → PartSet table groups k cells p → BoundAt cells p q σ → row ≡ 8 * ((k - 1) / 2) → k < parts d → q < part_size d k
       → part_piece text labels p row σ ≡ witness_lines (subject_of d) (check_at (subject_of d) (part_begin d k + q))
-  witness-lines zero P B r l h = first_part 0 P B refl h
-  witness-lines (suc n) P B r l h = go (n % 2) refl (mod-lt n (zero-lt-suc 1))
-    where
-      j : ℕ
-      j = n / 2
-
-      entry : (op : Operation) × (get_elem? d.operations j ≡ some op)
-      entry = below-entry d.operations j (omega arith)
-
-      rows : row ≡ 8 * j
-      rows = omega arith
-
-      go : (w : ℕ) → n % 2 ≡ w → w < 2 → WitnessOf (suc n)
-      go zero e u =
-          let s : suc n ≡ 1 + 2 * j = omega arith in
-          subst WitnessOf (sym s) (applying-part j entry.0 entry.1 rows (suc n) P B s (subst (λ (x : ℕ). q < part_size d x) s h))
-      go (suc zero) e u =
-          let s : suc n ≡ 2 + 2 * j = omega arith in
-          subst WitnessOf (sym s) (correcting-part j entry.0 entry.1 rows (suc n) P B s (subst (λ (x : ℕ). q < part_size d x) s h))
-      go (suc (suc w)) e u = let y : ⊥ = omega arith in absurd y
+  witness-lines P B r l h = by-kind P d G l WitnessOf opening-lines applying-lines correcting-lines B r h
 
 -- so what writes the lines of the groups writes the witness
 pub witness-added : {text labels table groups cells : List ℕ} {k q row : ℕ} {p : Part} {σ : List ℤ} {v w : Writer} → PartSet table groups k cells p → BoundAt cells p q σ
@@ -232,7 +194,7 @@ pub witness-added : {text labels table groups cells : List ℕ} {k q row : ℕ} 
 witness-added {text} {labels} {table} {groups} {cells} {k} {q} {row} {p} {σ} {v} {w} P B e a s = record {
   same_bytes = a.same_bytes;
   written = record {
-    lines = λ d G L l h. subst (λ (x : List ℕ). Writes v.at x v.out.now w.out.now w.at) (witness-lines text labels table groups cells d L G q row p σ k P B e l h) a.written;
+    lines = λ d G L l h. subst (λ (x : List ℕ). Writes v.at x v.out.now w.out.now w.at) (witness-lines text labels table groups cells d L G q row σ P B e l h) a.written;
     long = a.written.long;
     onward = omega (arith, a.written.end);
     short = s;

@@ -1,28 +1,30 @@
 -- What the binding at a place of a part and the lines of its groups ask and promise, by the sizes of the part. Nothing here need be believed.
-use Rattle.std.specs.Prelude.{◌≡◌, List, ◌++◌, ℕ, ◌+◌, ◌*◌, ◌/◌, ◌%◌, ◌<◌, ◌≤◌, ℤ}
+use Rattle.std.specs.Prelude.{◌≡◌, List, ◌++◌, ℕ, ◌+◌, ◌/◌, ◌%◌, ◌<◌, ◌≤◌, ℤ}
 use Rattle.static_rules.specs.Limits.{binding_count}
 use Rattle.slot_carriers.specs.CellGroups.{Grouped, HoldsBinding}
+use Rattle.slot_carriers.specs.declared.groups.GroupSize.{GroupSize}
 use Rattle.plans.specs.declared.Part.{Part}
+use Rattle.part_places.specs.NestStepsPartTests.{places}
 use Rattle.lines.specs.LinesByNumber.{group_piece}
 
--- n variables stand from the slot s on, at most `many`, with w bindings
-pub record SizedAt (cells : List ℕ) (s many n w : ℕ) : Type 0 where
-  pub grouped : Grouped cells s n
-  pub count : w ≡ binding_count grouped.group
-  pub short : n ≤ many
+-- a group stands from the slot s on, of at most `many` variables
+pub record SizedAt (cells : List ℕ) (s many : ℕ) (g : GroupSize) : Type 0 where
+  pub grouped : Grouped cells s g.variables
+  pub count : g.bindings ≡ binding_count grouped.group
+  pub short : g.variables ≤ many
 
 -- all groups of a part
 pub record PartSized (cells : List ℕ) (p : Part) : Type 0 where
-  pub abstracts : SizedAt cells 0 8 p.abstracts.variables p.abstracts.bindings
-  pub concretes : SizedAt cells 8 8 p.concretes.variables p.concretes.bindings
-  pub inputs : SizedAt cells 16 3 p.inputs.variables p.inputs.bindings
-  pub outputs : SizedAt cells 19 3 p.outputs.variables p.outputs.bindings
-  pub primes : SizedAt cells 22 8 p.primes.variables p.primes.bindings
+  pub abstracts : SizedAt cells 0 8 p.abstracts
+  pub concretes : SizedAt cells 8 8 p.concretes
+  pub inputs : SizedAt cells 16 3 p.inputs
+  pub outputs : SizedAt cells 19 3 p.outputs
+  pub primes : SizedAt cells 22 8 p.primes
 
 -- asked: the cells of all groups of a part, and a place in it
 pub record BindAsked (cells : List ℕ) (p : Part) (at : ℕ) : Type 0 where
   pub sized : PartSized cells p
-  pub low : at < p.abstracts.bindings * p.concretes.bindings * p.inputs.bindings * p.outputs.bindings * p.primes.bindings
+  pub low : at < places p
 
 -- promised: the slots of each group hold the binding that its digit of the place says
 pub record BoundAt (cells : List ℕ) (p : Part) (at : ℕ) (values : List ℤ) : Type 0 where

@@ -9,12 +9,13 @@ ghost use Rattle.witnesses.specs.WitnessSteps.{BindAsked, BoundAt, LinesAsked, p
 
 use held_checks::{Obligation, obligation_of};
 use labels::Names;
-use lines::{Group, OPERATION_ROW, Side, put_group};
+use lines::{Group, Side, put_group};
 use part_places::{Found, part_cells};
 use pieces::Writer;
 use plans::Part;
 use points::slots;
 use search_groups::Dossier;
+use search_groups::groups::OPERATION_ROWS;
 use slot_carriers::groups::bind;
 use slot_carriers::{CELLS, SLOTS};
 
@@ -22,53 +23,50 @@ use slot_carriers::{CELLS, SLOTS};
 pub const WITNESS: usize = 19350;
 
 // The binding at a place, by its digits.
-fn bind_place(cells: &[u32; CELLS], p: Part, at: usize, values: &mut [i64; SLOTS])
+fn bind_place(cells: &[u32; CELLS], p: Part, at: usize) -> [i64; SLOTS]
     requires { BindAsked cells.now p at }
-    ensures { BoundAt cells.now p at values.new }
+    ensures { BoundAt cells.now p at result }
 {
+    let mut values = [0i64; SLOTS];
     let o = at / p.primes.bindings;
     let i = o / p.outputs.bindings;
     let c = i / p.inputs.bindings;
     bind(
         cells,
         slots::ABSTRACT,
-        p.abstracts.variables,
-        p.abstracts.bindings,
+        p.abstracts,
         c / p.concretes.bindings,
-        values,
+        &mut values,
     );
     bind(
         cells,
         slots::CONCRETE,
-        p.concretes.variables,
-        p.concretes.bindings,
+        p.concretes,
         c % p.concretes.bindings,
-        values,
+        &mut values,
     );
     bind(
         cells,
         slots::INPUTS,
-        p.inputs.variables,
-        p.inputs.bindings,
+        p.inputs,
         i % p.inputs.bindings,
-        values,
+        &mut values,
     );
     bind(
         cells,
         slots::OUTPUTS,
-        p.outputs.variables,
-        p.outputs.bindings,
+        p.outputs,
         o % p.outputs.bindings,
-        values,
+        &mut values,
     );
     bind(
         cells,
         slots::CONCRETE_PRIMED,
-        p.primes.variables,
-        p.primes.bindings,
+        p.primes,
         at % p.primes.bindings,
-        values,
+        &mut values,
     );
+    values
 }
 
 // The lines of all groups of a part; `row` is how far its operation's rows are from the first operation's. A group without variables leaves no line.
@@ -99,7 +97,7 @@ fn operation_row(k: usize) -> usize
 {
     match obligation_of(k) {
         Obligation::Initialisation => 0,
-        Obligation::Applicability(j) | Obligation::Correctness(j) => OPERATION_ROW * j,
+        Obligation::Applicability(j) | Obligation::Correctness(j) => OPERATION_ROWS * j,
     }
 }
 
@@ -110,8 +108,7 @@ pub fn put_witness(names: &Names<'_>, d: &Dossier<'_>, f: Found, w: &mut Writer<
     ensures { AddsWitness names.now.text.now names.now.labels.now d.now.table.now d.now.groups.now f.part f.at w.old w.new }
 {
     let mut cells = [0u32; CELLS];
-    let mut values = [0i64; SLOTS];
     let p = part_cells(d, f.part, &mut cells);
-    bind_place(&cells, p, f.at, &mut values);
+    let values = bind_place(&cells, p, f.at);
     put_groups(names, &values, p, operation_row(f.part), w);
 }

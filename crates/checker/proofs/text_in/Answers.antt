@@ -1,6 +1,17 @@
--- `checker::text_in` meets its contract.
-use Rattle.checker.proofs.OpenLaws.{part_is}
+-- `checker::text_in` meets its contract: the text of laid bytes stands among them.
+use borrow.Author.Rules.{rules}
+use mathlib.Core.Path.{◌≡◌}
+use native.Mathlib.Omega.{arith}
+use lib.ListN.{length}
+use Rattle.held_checks.proofs.HeldBytesLaws.{laid-short}
+use Rattle.checker.proofs.OpenLaws.{text-is}
 use Rattle.checker.proofs.text_in.Goals as goal
 
+pub overflow_add-end : goal.overflow_add-end
+overflow_add-end c = let l : length c.args.held.now ≡ 32784 = search rules in omega (arith, l, laid-short c.args.held.now l c.requires, c.length_in-end.ensures)
+
+pub slice_bounds-result-end : goal.slice_bounds-result-end
+slice_bounds-result-end c = let l : length c.args.held.now ≡ 32784 = search rules in omega (arith, l, laid-short c.args.held.now l c.requires, c.length_in-end.ensures)
+
 pub returns : goal.returns
-returns c = part_is c.args.held.now c.args.n
+returns c = text-is c.args.held.now c.length_in-end.ensures

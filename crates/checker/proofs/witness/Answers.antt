@@ -28,13 +28,13 @@ pub returns-then-lent-n : goal.returns-then-lent-n
 returns-then-lent-n c = witness-short (opened-as c.open_bytes.ensures c.ok_or.ensures.ok_part c.in_ok-o.was) (not-one (is-refuted c.in_ok-o.o.mark c.ne.ensures c.if-ne.false)) (not-two (is-refuted c.in_ok-o.o.mark c.ne.ensures c.if-ne.false)) c.put_held-n.ensures c.if-lent-n.true
 
 pub copy_from_slice-requires : goal.copy_from_slice-requires
-copy_from_slice-requires c = length-take-le c.put_held-n.result c.args.lent.now (omega (arith, c.if-lent-n.false)) ∙ sym (length-take-le c.put_held-n.result c.put_held-n.new.out (omega (arith, c.put_held-n.ensures.short, c.put_held-n.auto.out)))
+copy_from_slice-requires c = length-take-le c.put_held-n.result c.args.lent.now (omega (arith, c.if-lent-n.false)) ∙ sym (length-take-le c.put_held-n.result c.put_held-n.new.out (omega (arith, c.put_held-n.ensures.short)))
 
 pub slice_bounds-copy_from_slice-end-2 : goal.slice_bounds-copy_from_slice-end-2
 slice_bounds-copy_from_slice-end-2 c = sym (length-take-le c.put_held-n.result c.args.lent.now (omega (arith, c.if-lent-n.false)))
 
 pub slice_bounds-copy_from_slice-end-3 : goal.slice_bounds-copy_from_slice-end-3
-slice_bounds-copy_from_slice-end-3 c = sym (length-take-le c.put_held-n.result c.put_held-n.new.out (omega (arith, c.put_held-n.ensures.short, c.put_held-n.auto.out)))
+slice_bounds-copy_from_slice-end-3 c = sym (length-take-le c.put_held-n.result c.put_held-n.new.out (omega (arith, c.put_held-n.ensures.short)))
 
 pub returns : goal.returns
 returns c = witness-written (opened-as c.open_bytes.ensures c.ok_or.ensures.ok_part c.in_ok-o.was) (not-one (is-refuted c.in_ok-o.o.mark c.ne.ensures c.if-ne.false)) (not-two (is-refuted c.in_ok-o.o.mark c.ne.ensures c.if-ne.false)) c.put_held-n.ensures (omega (arith, c.if-lent-n.false)) c.copy_from_slice.ensures.after

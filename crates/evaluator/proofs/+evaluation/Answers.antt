@@ -37,11 +37,11 @@ holds-holds-q-requires t c = (omega arith, truths.truth-at c.holds-p.ensures.kep
 pub holds-connected-requires-in-18 : goal.holds-connected-requires-in-18
 holds-connected-requires-in-18 t c = tt
 
-pub holds-part-x-requires : goal.holds-part-x-requires
-holds-part-x-requires t c = (let below = truths.comparison-before c.in-19.is c.requires.truth_runs in omega arith, truths.comparison-left c.in-19.is c.requires.truth_runs)
+pub holds-value-x-requires : goal.holds-value-x-requires
+holds-value-x-requires t c = (let below = truths.comparison-before c.in-19.is c.requires.truth_runs in omega arith, truths.comparison-left c.in-19.is c.requires.truth_runs)
 
-pub holds-part-y-requires : goal.holds-part-y-requires
-holds-part-y-requires t c = (omega arith, nodes.runs-at c.part-x.ensures.kept (truths.comparison-right c.in-19.is c.requires.truth_runs))
+pub holds-value-y-requires : goal.holds-value-y-requires
+holds-value-y-requires t c = (omega arith, nodes.runs-at c.value-x.ensures.kept (truths.comparison-right c.in-19.is c.requires.truth_runs))
 
 pub holds-compared-requires : goal.holds-compared-requires
 holds-compared-requires t c = tt
@@ -62,7 +62,7 @@ pub holds-returns-else-settles : goal.holds-returns-else-settles
 holds-returns-else-settles t c = record { answers = truths.connective-answers c.in-18.is c.connected-in-18.ensures c.holds-p.ensures.answers (truths.truth-heard c.holds-p.ensures.kept c.holds-q.ensures.answers); kept = c.holds-q.ensures.kept ∙ c.holds-p.ensures.kept }
 
 pub holds-returns-in-19 : goal.holds-returns-in-19
-holds-returns-in-19 t c = record { answers = truths.comparison-answers c.in-19.is c.compared.ensures (nodes.heard c.part-x.type_inv c.part-x.ensures.answers) (nodes.heard-at c.part-x.ensures.kept c.part-y.type_inv c.part-y.ensures.answers); kept = c.part-y.ensures.kept ∙ c.part-x.ensures.kept }
+holds-returns-in-19 t c = record { answers = truths.comparison-answers c.in-19.is c.compared.ensures (nodes.heard c.value-x.type_inv c.value-x.ensures.answers) (nodes.heard-at c.value-x.ensures.kept c.value-y.type_inv c.value-y.ensures.answers); kept = c.value-y.ensures.kept ∙ c.value-x.ensures.kept }
 
 pub holds-returns-in-24 : goal.holds-returns-in-24
 holds-returns-in-24 t c = record { answers = truths.quantifier-answers c.in-24.is c.quantified.ensures.answers; kept = c.quantified.ensures.kept }
@@ -70,74 +70,74 @@ holds-returns-in-24 t c = record { answers = truths.quantifier-answers c.in-24.i
 pub holds-returns-in_default : goal.holds-returns-in_default
 holds-returns-in_default t c = record { answers = truths.asked-answers (nodes.unequal c.in_default.in_default-own.rest.0.0.0.0.1) (nodes.unequal c.in_default.in_default-own.rest.0.0.0.1) (nodes.unequal c.in_default.in_default-own.rest.0.0.1) (nodes.unequal c.in_default.in_default-own.rest.0.1) (nodes.unequal c.in_default.in_default-own.rest.1) c.member.ensures.answers; kept = c.member.ensures.kept }
 
-pub items-part-x-requires : goal.items-part-x-requires
-items-part-x-requires t c = (omega arith, items-laws.last-item-part c.in-9.is c.requires.items_run)
+pub items-value-x-requires : goal.items-value-x-requires
+items-value-x-requires t c = (omega arith, items-laws.last-item-part c.in-9.is c.requires.items_run)
 
 pub items-single-requires : goal.items-single-requires
-items-single-requires t c = items-laws.last-item-place c.in-9.is c.requires.items_run (nodes.heard c.part-x.type_inv c.part-x.ensures.answers)
+items-single-requires t c = items-laws.last-item-place c.in-9.is c.requires.items_run (nodes.heard c.value-x.type_inv c.value-x.ensures.answers)
 
-pub items-part-x-requires-in-10 : goal.items-part-x-requires-in-10
-items-part-x-requires-in-10 t c = (let below = items-laws.more-items-before c.in-10.is c.requires.items_run in omega arith, items-laws.more-items-part c.in-10.is c.requires.items_run)
+pub items-value-x-requires-in-10 : goal.items-value-x-requires-in-10
+items-value-x-requires-in-10 t c = (let below = items-laws.more-items-before c.in-10.is c.requires.items_run in omega arith, items-laws.more-items-part c.in-10.is c.requires.items_run)
 
 pub items-items-s-requires : goal.items-items-s-requires
-items-items-s-requires t c = (omega arith, items-laws.items_at c.part-x-in-10.ensures.kept (items-laws.more-items-rest c.in-10.is c.requires.items_run))
+items-items-s-requires t c = (omega arith, items-laws.items_at c.value-x-in-10.ensures.kept (items-laws.more-items-rest c.in-10.is c.requires.items_run))
 
 pub items-single-requires-in-10 : goal.items-single-requires-in-10
-items-single-requires-in-10 t c = items-laws.more-items-place c.in-10.is c.requires.items_run (nodes.heard c.part-x-in-10.type_inv c.part-x-in-10.ensures.answers)
+items-single-requires-in-10 t c = items-laws.more-items-place c.in-10.is c.requires.items_run (nodes.heard c.value-x-in-10.type_inv c.value-x-in-10.ensures.answers)
 
 pub items-joined-requires : goal.items-joined-requires
-items-joined-requires t c = (items-laws.single-bits (items-laws.more-items-place c.in-10.is c.requires.items_run (nodes.heard c.part-x-in-10.type_inv c.part-x-in-10.ensures.answers)) (nodes.read c.single-in-10.type_inv ∙ c.single-in-10.ensures), items-laws.items-bits (items-laws.more-items-rest c.in-10.is c.requires.items_run).1 (items-laws.items-heard c.part-x-in-10.ensures.kept c.items-s.type_inv c.items-s.ensures.answers))
+items-joined-requires t c = (items-laws.single-bits (items-laws.more-items-place c.in-10.is c.requires.items_run (nodes.heard c.value-x-in-10.type_inv c.value-x-in-10.ensures.answers)) (nodes.read c.single-in-10.type_inv ∙ c.single-in-10.ensures), items-laws.items-bits (items-laws.more-items-rest c.in-10.is c.requires.items_run).1 (items-laws.items-heard c.value-x-in-10.ensures.kept c.items-s.type_inv c.items-s.ensures.answers))
 
-pub items-part-x-requires-in-11 : goal.items-part-x-requires-in-11
-items-part-x-requires-in-11 t c = (let below = items-laws.last-pair-before c.in-11.is c.requires.items_run in omega arith, items-laws.last-pair-left c.in-11.is c.requires.items_run)
+pub items-value-x-requires-in-11 : goal.items-value-x-requires-in-11
+items-value-x-requires-in-11 t c = (let below = items-laws.last-pair-before c.in-11.is c.requires.items_run in omega arith, items-laws.last-pair-left c.in-11.is c.requires.items_run)
 
-pub items-part-y-requires : goal.items-part-y-requires
-items-part-y-requires t c = (omega arith, nodes.runs-at c.part-x-in-11.ensures.kept (items-laws.last-pair-right c.in-11.is c.requires.items_run))
+pub items-value-y-requires : goal.items-value-y-requires
+items-value-y-requires t c = (omega arith, nodes.runs-at c.value-x-in-11.ensures.kept (items-laws.last-pair-right c.in-11.is c.requires.items_run))
 
 pub items-pair-requires : goal.items-pair-requires
-items-pair-requires t c = items-laws.last-pair-takes c.in-11.is c.requires.items_run (nodes.heard c.part-x-in-11.type_inv c.part-x-in-11.ensures.answers) (nodes.heard-at c.part-x-in-11.ensures.kept c.part-y.type_inv c.part-y.ensures.answers)
+items-pair-requires t c = items-laws.last-pair-takes c.in-11.is c.requires.items_run (nodes.heard c.value-x-in-11.type_inv c.value-x-in-11.ensures.answers) (nodes.heard-at c.value-x-in-11.ensures.kept c.value-y.type_inv c.value-y.ensures.answers)
 
 pub items-single-requires-in-11 : goal.items-single-requires-in-11
-items-single-requires-in-11 t c = items-laws.last-pair-low c.in-11.is (nodes.read c.pair.type_inv ∙ c.pair.ensures) c.requires.items_run (nodes.heard c.part-x-in-11.type_inv c.part-x-in-11.ensures.answers) (nodes.heard-at c.part-x-in-11.ensures.kept c.part-y.type_inv c.part-y.ensures.answers)
+items-single-requires-in-11 t c = items-laws.last-pair-low c.in-11.is (nodes.read c.pair.type_inv ∙ c.pair.ensures) c.requires.items_run (nodes.heard c.value-x-in-11.type_inv c.value-x-in-11.ensures.answers) (nodes.heard-at c.value-x-in-11.ensures.kept c.value-y.type_inv c.value-y.ensures.answers)
 
-pub items-part-x-requires-in_default : goal.items-part-x-requires-in_default
-items-part-x-requires-in_default t c = (let below = items-laws.more-pairs-before (nodes.unequal c.in_default.in_default-own.rest.0.0.1) (nodes.unequal c.in_default.in_default-own.rest.0.1) (nodes.unequal c.in_default.in_default-own.rest.1) c.requires.items_run in omega arith, items-laws.more-pairs-left (nodes.unequal c.in_default.in_default-own.rest.0.0.1) (nodes.unequal c.in_default.in_default-own.rest.0.1) (nodes.unequal c.in_default.in_default-own.rest.1) c.requires.items_run)
+pub items-value-x-requires-in_default : goal.items-value-x-requires-in_default
+items-value-x-requires-in_default t c = (let below = items-laws.more-pairs-before (nodes.unequal c.in_default.in_default-own.rest.0.0.1) (nodes.unequal c.in_default.in_default-own.rest.0.1) (nodes.unequal c.in_default.in_default-own.rest.1) c.requires.items_run in omega arith, items-laws.more-pairs-left (nodes.unequal c.in_default.in_default-own.rest.0.0.1) (nodes.unequal c.in_default.in_default-own.rest.0.1) (nodes.unequal c.in_default.in_default-own.rest.1) c.requires.items_run)
 
-pub items-part-y-requires-in_default : goal.items-part-y-requires-in_default
-items-part-y-requires-in_default t c = (let below = items-laws.more-pairs-between (nodes.unequal c.in_default.in_default-own.rest.0.0.1) (nodes.unequal c.in_default.in_default-own.rest.0.1) (nodes.unequal c.in_default.in_default-own.rest.1) c.requires.items_run in omega arith, nodes.runs-at c.part-x-in_default.ensures.kept (items-laws.more-pairs-right (nodes.unequal c.in_default.in_default-own.rest.0.0.1) (nodes.unequal c.in_default.in_default-own.rest.0.1) (nodes.unequal c.in_default.in_default-own.rest.1) c.requires.items_run))
+pub items-value-y-requires-in_default : goal.items-value-y-requires-in_default
+items-value-y-requires-in_default t c = (let below = items-laws.more-pairs-between (nodes.unequal c.in_default.in_default-own.rest.0.0.1) (nodes.unequal c.in_default.in_default-own.rest.0.1) (nodes.unequal c.in_default.in_default-own.rest.1) c.requires.items_run in omega arith, nodes.runs-at c.value-x-in_default.ensures.kept (items-laws.more-pairs-right (nodes.unequal c.in_default.in_default-own.rest.0.0.1) (nodes.unequal c.in_default.in_default-own.rest.0.1) (nodes.unequal c.in_default.in_default-own.rest.1) c.requires.items_run))
 
 pub items-items-s-requires-in_default : goal.items-items-s-requires-in_default
-items-items-s-requires-in_default t c = (omega arith, items-laws.items_at (c.part-y-in_default.ensures.kept ∙ c.part-x-in_default.ensures.kept) (items-laws.more-pairs-rest (nodes.unequal c.in_default.in_default-own.rest.0.0.1) (nodes.unequal c.in_default.in_default-own.rest.0.1) (nodes.unequal c.in_default.in_default-own.rest.1) c.requires.items_run))
+items-items-s-requires-in_default t c = (omega arith, items-laws.items_at (c.value-y-in_default.ensures.kept ∙ c.value-x-in_default.ensures.kept) (items-laws.more-pairs-rest (nodes.unequal c.in_default.in_default-own.rest.0.0.1) (nodes.unequal c.in_default.in_default-own.rest.0.1) (nodes.unequal c.in_default.in_default-own.rest.1) c.requires.items_run))
 
 pub items-pair-requires-in_default : goal.items-pair-requires-in_default
-items-pair-requires-in_default t c = items-laws.more-pairs-takes (nodes.unequal c.in_default.in_default-own.rest.0.0.1) (nodes.unequal c.in_default.in_default-own.rest.0.1) (nodes.unequal c.in_default.in_default-own.rest.1) c.requires.items_run (nodes.heard c.part-x-in_default.type_inv c.part-x-in_default.ensures.answers) (nodes.heard-at c.part-x-in_default.ensures.kept c.part-y-in_default.type_inv c.part-y-in_default.ensures.answers)
+items-pair-requires-in_default t c = items-laws.more-pairs-takes (nodes.unequal c.in_default.in_default-own.rest.0.0.1) (nodes.unequal c.in_default.in_default-own.rest.0.1) (nodes.unequal c.in_default.in_default-own.rest.1) c.requires.items_run (nodes.heard c.value-x-in_default.type_inv c.value-x-in_default.ensures.answers) (nodes.heard-at c.value-x-in_default.ensures.kept c.value-y-in_default.type_inv c.value-y-in_default.ensures.answers)
 
 pub items-single-requires-in_default : goal.items-single-requires-in_default
-items-single-requires-in_default t c = items-laws.more-pairs-low (nodes.unequal c.in_default.in_default-own.rest.0.0.1) (nodes.unequal c.in_default.in_default-own.rest.0.1) (nodes.unequal c.in_default.in_default-own.rest.1) (nodes.read c.pair-in_default.type_inv ∙ c.pair-in_default.ensures) c.requires.items_run (nodes.heard c.part-x-in_default.type_inv c.part-x-in_default.ensures.answers) (nodes.heard-at c.part-x-in_default.ensures.kept c.part-y-in_default.type_inv c.part-y-in_default.ensures.answers)
+items-single-requires-in_default t c = items-laws.more-pairs-low (nodes.unequal c.in_default.in_default-own.rest.0.0.1) (nodes.unequal c.in_default.in_default-own.rest.0.1) (nodes.unequal c.in_default.in_default-own.rest.1) (nodes.read c.pair-in_default.type_inv ∙ c.pair-in_default.ensures) c.requires.items_run (nodes.heard c.value-x-in_default.type_inv c.value-x-in_default.ensures.answers) (nodes.heard-at c.value-x-in_default.ensures.kept c.value-y-in_default.type_inv c.value-y-in_default.ensures.answers)
 
 pub items-joined-requires-in_default : goal.items-joined-requires-in_default
-items-joined-requires-in_default t c = (items-laws.single-bits (items-laws.more-pairs-low (nodes.unequal c.in_default.in_default-own.rest.0.0.1) (nodes.unequal c.in_default.in_default-own.rest.0.1) (nodes.unequal c.in_default.in_default-own.rest.1) (nodes.read c.pair-in_default.type_inv ∙ c.pair-in_default.ensures) c.requires.items_run (nodes.heard c.part-x-in_default.type_inv c.part-x-in_default.ensures.answers) (nodes.heard-at c.part-x-in_default.ensures.kept c.part-y-in_default.type_inv c.part-y-in_default.ensures.answers)) (nodes.read c.single-in_default.type_inv ∙ c.single-in_default.ensures), items-laws.items-bits (items-laws.more-pairs-rest (nodes.unequal c.in_default.in_default-own.rest.0.0.1) (nodes.unequal c.in_default.in_default-own.rest.0.1) (nodes.unequal c.in_default.in_default-own.rest.1) c.requires.items_run).1 (items-laws.items-heard (c.part-y-in_default.ensures.kept ∙ c.part-x-in_default.ensures.kept) c.items-s-in_default.type_inv c.items-s-in_default.ensures.answers))
+items-joined-requires-in_default t c = (items-laws.single-bits (items-laws.more-pairs-low (nodes.unequal c.in_default.in_default-own.rest.0.0.1) (nodes.unequal c.in_default.in_default-own.rest.0.1) (nodes.unequal c.in_default.in_default-own.rest.1) (nodes.read c.pair-in_default.type_inv ∙ c.pair-in_default.ensures) c.requires.items_run (nodes.heard c.value-x-in_default.type_inv c.value-x-in_default.ensures.answers) (nodes.heard-at c.value-x-in_default.ensures.kept c.value-y-in_default.type_inv c.value-y-in_default.ensures.answers)) (nodes.read c.single-in_default.type_inv ∙ c.single-in_default.ensures), items-laws.items-bits (items-laws.more-pairs-rest (nodes.unequal c.in_default.in_default-own.rest.0.0.1) (nodes.unequal c.in_default.in_default-own.rest.0.1) (nodes.unequal c.in_default.in_default-own.rest.1) c.requires.items_run).1 (items-laws.items-heard (c.value-y-in_default.ensures.kept ∙ c.value-x-in_default.ensures.kept) c.items-s-in_default.type_inv c.items-s-in_default.ensures.answers))
 
 pub items-returns-in-9 : goal.items-returns-in-9
-items-returns-in-9 t c = record { answers = items-laws.last-item-answers c.in-9.is (nodes.read c.single.type_inv ∙ c.single.ensures) (nodes.heard c.part-x.type_inv c.part-x.ensures.answers); kept = c.part-x.ensures.kept }
+items-returns-in-9 t c = record { answers = items-laws.last-item-answers c.in-9.is (nodes.read c.single.type_inv ∙ c.single.ensures) (nodes.heard c.value-x.type_inv c.value-x.ensures.answers); kept = c.value-x.ensures.kept }
 
 pub items-returns-in-10 : goal.items-returns-in-10
-items-returns-in-10 t c = record { answers = items-laws.more-items-answers c.in-10.is (nodes.read c.single-in-10.type_inv ∙ c.single-in-10.ensures) (nodes.read c.joined.type_inv ∙ c.joined.ensures) (nodes.heard c.part-x-in-10.type_inv c.part-x-in-10.ensures.answers) (items-laws.items-heard c.part-x-in-10.ensures.kept c.items-s.type_inv c.items-s.ensures.answers); kept = c.items-s.ensures.kept ∙ c.part-x-in-10.ensures.kept }
+items-returns-in-10 t c = record { answers = items-laws.more-items-answers c.in-10.is (nodes.read c.single-in-10.type_inv ∙ c.single-in-10.ensures) (nodes.read c.joined.type_inv ∙ c.joined.ensures) (nodes.heard c.value-x-in-10.type_inv c.value-x-in-10.ensures.answers) (items-laws.items-heard c.value-x-in-10.ensures.kept c.items-s.type_inv c.items-s.ensures.answers); kept = c.items-s.ensures.kept ∙ c.value-x-in-10.ensures.kept }
 
 pub items-returns-in-11 : goal.items-returns-in-11
-items-returns-in-11 t c = record { answers = items-laws.last-pair-answers c.in-11.is (nodes.read c.pair.type_inv ∙ c.pair.ensures) (nodes.read c.single-in-11.type_inv ∙ c.single-in-11.ensures) (nodes.heard c.part-x-in-11.type_inv c.part-x-in-11.ensures.answers) (nodes.heard-at c.part-x-in-11.ensures.kept c.part-y.type_inv c.part-y.ensures.answers); kept = c.part-y.ensures.kept ∙ c.part-x-in-11.ensures.kept }
+items-returns-in-11 t c = record { answers = items-laws.last-pair-answers c.in-11.is (nodes.read c.pair.type_inv ∙ c.pair.ensures) (nodes.read c.single-in-11.type_inv ∙ c.single-in-11.ensures) (nodes.heard c.value-x-in-11.type_inv c.value-x-in-11.ensures.answers) (nodes.heard-at c.value-x-in-11.ensures.kept c.value-y.type_inv c.value-y.ensures.answers); kept = c.value-y.ensures.kept ∙ c.value-x-in-11.ensures.kept }
 
 pub items-returns-in_default : goal.items-returns-in_default
-items-returns-in_default t c = record { answers = items-laws.more-pairs-answers (nodes.unequal c.in_default.in_default-own.rest.0.0.1) (nodes.unequal c.in_default.in_default-own.rest.0.1) (nodes.unequal c.in_default.in_default-own.rest.1) (nodes.read c.pair-in_default.type_inv ∙ c.pair-in_default.ensures) (nodes.read c.single-in_default.type_inv ∙ c.single-in_default.ensures) (nodes.read c.joined-in_default.type_inv ∙ c.joined-in_default.ensures) (nodes.heard c.part-x-in_default.type_inv c.part-x-in_default.ensures.answers) (nodes.heard-at c.part-x-in_default.ensures.kept c.part-y-in_default.type_inv c.part-y-in_default.ensures.answers) (items-laws.items-heard (c.part-y-in_default.ensures.kept ∙ c.part-x-in_default.ensures.kept) c.items-s-in_default.type_inv c.items-s-in_default.ensures.answers); kept = c.items-s-in_default.ensures.kept ∙ (c.part-y-in_default.ensures.kept ∙ c.part-x-in_default.ensures.kept) }
+items-returns-in_default t c = record { answers = items-laws.more-pairs-answers (nodes.unequal c.in_default.in_default-own.rest.0.0.1) (nodes.unequal c.in_default.in_default-own.rest.0.1) (nodes.unequal c.in_default.in_default-own.rest.1) (nodes.read c.pair-in_default.type_inv ∙ c.pair-in_default.ensures) (nodes.read c.single-in_default.type_inv ∙ c.single-in_default.ensures) (nodes.read c.joined-in_default.type_inv ∙ c.joined-in_default.ensures) (nodes.heard c.value-x-in_default.type_inv c.value-x-in_default.ensures.answers) (nodes.heard-at c.value-x-in_default.ensures.kept c.value-y-in_default.type_inv c.value-y-in_default.ensures.answers) (items-laws.items-heard (c.value-y-in_default.ensures.kept ∙ c.value-x-in_default.ensures.kept) c.items-s-in_default.type_inv c.items-s-in_default.ensures.answers); kept = c.items-s-in_default.ensures.kept ∙ (c.value-y-in_default.ensures.kept ∙ c.value-x-in_default.ensures.kept) }
 
-pub member-part-x-requires : goal.member-part-x-requires
-member-part-x-requires t c = (let below = members.element-before c.in-20.is c.requires.asked_runs in omega arith, members.element-left c.in-20.is c.requires.asked_runs)
+pub member-value-x-requires : goal.member-value-x-requires
+member-value-x-requires t c = (let below = members.element-before c.in-20.is c.requires.asked_runs in omega arith, members.element-left c.in-20.is c.requires.asked_runs)
 
-pub member-part-s-requires : goal.member-part-s-requires
-member-part-s-requires t c = (omega arith, nodes.runs-at c.part-x.ensures.kept (members.element-right c.in-20.is c.requires.asked_runs))
+pub member-value-s-requires : goal.member-value-s-requires
+member-value-s-requires t c = (omega arith, nodes.runs-at c.value-x.ensures.kept (members.element-right c.in-20.is c.requires.asked_runs))
 
 pub member-has-requires : goal.member-has-requires
-member-has-requires t c = members.element-takes c.in-20.is c.requires.asked_runs (nodes.heard c.part-x.type_inv c.part-x.ensures.answers) (nodes.heard-at c.part-x.ensures.kept c.part-s.type_inv c.part-s.ensures.answers)
+member-has-requires t c = members.element-takes c.in-20.is c.requires.asked_runs (nodes.heard c.value-x.type_inv c.value-x.ensures.answers) (nodes.heard-at c.value-x.ensures.kept c.value-s.type_inv c.value-s.ensures.answers)
 
 pub member-asked-requires : goal.member-asked-requires
 member-asked-requires t c = tt
@@ -145,8 +145,8 @@ member-asked-requires t c = tt
 pub member-overflow_sub-end-in-21 : goal.member-overflow_sub-end-in-21
 member-overflow_sub-end-in-21 t c = members.range-room c.in-21.is c.requires.asked_runs
 
-pub member-part-x-requires-in-21 : goal.member-part-x-requires-in-21
-member-part-x-requires-in-21 t c = (let room = members.range-room c.in-21.is c.requires.asked_runs in omega arith, members.range-part c.in-21.is c.requires.asked_runs)
+pub member-value-x-requires-in-21 : goal.member-value-x-requires-in-21
+member-value-x-requires-in-21 t c = (let room = members.range-room c.in-21.is c.requires.asked_runs in omega arith, members.range-part c.in-21.is c.requires.asked_runs)
 
 pub member-overflow_sub-end-in-21-3 : goal.member-overflow_sub-end-in-21-3
 member-overflow_sub-end-in-21-3 t c = let room = members.range-room c.in-21.is c.requires.asked_runs in omega arith
@@ -163,32 +163,32 @@ member-in_range-requires t c = numbers.small-read c.lowest.result c.lowest.type_
 pub member-asked-requires-in-21 : goal.member-asked-requires-in-21
 member-asked-requires-in-21 t c = tt
 
-pub member-part-x-requires-in_default : goal.member-part-x-requires-in_default
-member-part-x-requires-in_default t c = (let below = members.related-before (nodes.unequal c.in_default.in_default-own.rest.0.1) (nodes.unequal c.in_default.in_default-own.rest.1) c.requires.asked_runs in omega arith, members.related-left (nodes.unequal c.in_default.in_default-own.rest.0.1) (nodes.unequal c.in_default.in_default-own.rest.1) c.requires.asked_runs)
+pub member-value-x-requires-in_default : goal.member-value-x-requires-in_default
+member-value-x-requires-in_default t c = (let below = members.related-before (nodes.unequal c.in_default.in_default-own.rest.0.1) (nodes.unequal c.in_default.in_default-own.rest.1) c.requires.asked_runs in omega arith, members.related-left (nodes.unequal c.in_default.in_default-own.rest.0.1) (nodes.unequal c.in_default.in_default-own.rest.1) c.requires.asked_runs)
 
-pub member-part-y-requires : goal.member-part-y-requires
-member-part-y-requires t c = (let below = members.related-between (nodes.unequal c.in_default.in_default-own.rest.0.1) (nodes.unequal c.in_default.in_default-own.rest.1) c.requires.asked_runs in omega arith, nodes.runs-at c.part-x-in_default.ensures.kept (members.related-middle (nodes.unequal c.in_default.in_default-own.rest.0.1) (nodes.unequal c.in_default.in_default-own.rest.1) c.requires.asked_runs))
+pub member-value-y-requires : goal.member-value-y-requires
+member-value-y-requires t c = (let below = members.related-between (nodes.unequal c.in_default.in_default-own.rest.0.1) (nodes.unequal c.in_default.in_default-own.rest.1) c.requires.asked_runs in omega arith, nodes.runs-at c.value-x-in_default.ensures.kept (members.related-middle (nodes.unequal c.in_default.in_default-own.rest.0.1) (nodes.unequal c.in_default.in_default-own.rest.1) c.requires.asked_runs))
 
-pub member-part-s-requires-in_default : goal.member-part-s-requires-in_default
-member-part-s-requires-in_default t c = (omega arith, nodes.runs-at (c.part-y.ensures.kept ∙ c.part-x-in_default.ensures.kept) (members.related-right (nodes.unequal c.in_default.in_default-own.rest.0.1) (nodes.unequal c.in_default.in_default-own.rest.1) c.requires.asked_runs))
+pub member-value-s-requires-in_default : goal.member-value-s-requires-in_default
+member-value-s-requires-in_default t c = (omega arith, nodes.runs-at (c.value-y.ensures.kept ∙ c.value-x-in_default.ensures.kept) (members.related-right (nodes.unequal c.in_default.in_default-own.rest.0.1) (nodes.unequal c.in_default.in_default-own.rest.1) c.requires.asked_runs))
 
 pub member-pair-requires : goal.member-pair-requires
-member-pair-requires t c = members.related-takes (nodes.unequal c.in_default.in_default-own.rest.0.1) (nodes.unequal c.in_default.in_default-own.rest.1) c.requires.asked_runs (nodes.heard c.part-x-in_default.type_inv c.part-x-in_default.ensures.answers) (nodes.heard-at c.part-x-in_default.ensures.kept c.part-y.type_inv c.part-y.ensures.answers)
+member-pair-requires t c = members.related-takes (nodes.unequal c.in_default.in_default-own.rest.0.1) (nodes.unequal c.in_default.in_default-own.rest.1) c.requires.asked_runs (nodes.heard c.value-x-in_default.type_inv c.value-x-in_default.ensures.answers) (nodes.heard-at c.value-x-in_default.ensures.kept c.value-y.type_inv c.value-y.ensures.answers)
 
 pub member-has-requires-in_default : goal.member-has-requires-in_default
-member-has-requires-in_default t c = members.related-has (nodes.unequal c.in_default.in_default-own.rest.0.1) (nodes.unequal c.in_default.in_default-own.rest.1) (nodes.read c.pair.type_inv ∙ c.pair.ensures) c.requires.asked_runs (nodes.heard c.part-x-in_default.type_inv c.part-x-in_default.ensures.answers) (nodes.heard-at c.part-x-in_default.ensures.kept c.part-y.type_inv c.part-y.ensures.answers) (nodes.heard-at (c.part-y.ensures.kept ∙ c.part-x-in_default.ensures.kept) c.part-s-in_default.type_inv c.part-s-in_default.ensures.answers)
+member-has-requires-in_default t c = members.related-has (nodes.unequal c.in_default.in_default-own.rest.0.1) (nodes.unequal c.in_default.in_default-own.rest.1) (nodes.read c.pair.type_inv ∙ c.pair.ensures) c.requires.asked_runs (nodes.heard c.value-x-in_default.type_inv c.value-x-in_default.ensures.answers) (nodes.heard-at c.value-x-in_default.ensures.kept c.value-y.type_inv c.value-y.ensures.answers) (nodes.heard-at (c.value-y.ensures.kept ∙ c.value-x-in_default.ensures.kept) c.value-s-in_default.type_inv c.value-s-in_default.ensures.answers)
 
 pub member-asked-requires-in_default : goal.member-asked-requires-in_default
 member-asked-requires-in_default t c = tt
 
 pub member-returns-in-20 : goal.member-returns-in-20
-member-returns-in-20 t c = record { answers = members.element-answers c.in-20.is c.has.ensures c.asked.ensures (nodes.heard c.part-x.type_inv c.part-x.ensures.answers) (nodes.heard-at c.part-x.ensures.kept c.part-s.type_inv c.part-s.ensures.answers); kept = c.part-s.ensures.kept ∙ c.part-x.ensures.kept }
+member-returns-in-20 t c = record { answers = members.element-answers c.in-20.is c.has.ensures c.asked.ensures (nodes.heard c.value-x.type_inv c.value-x.ensures.answers) (nodes.heard-at c.value-x.ensures.kept c.value-s.type_inv c.value-s.ensures.answers); kept = c.value-s.ensures.kept ∙ c.value-x.ensures.kept }
 
 pub member-returns-in-21 : goal.member-returns-in-21
-member-returns-in-21 t c = record { answers = members.range-answers c.in-21.is (nodes.read c.lowest.type_inv ∙ c.lowest.ensures.is) c.in_range.ensures c.asked-in-21.ensures (nodes.heard c.part-x-in-21.type_inv c.part-x-in-21.ensures.answers); kept = c.part-x-in-21.ensures.kept }
+member-returns-in-21 t c = record { answers = members.range-answers c.in-21.is (nodes.read c.lowest.type_inv ∙ c.lowest.ensures.is) c.in_range.ensures c.asked-in-21.ensures (nodes.heard c.value-x-in-21.type_inv c.value-x-in-21.ensures.answers); kept = c.value-x-in-21.ensures.kept }
 
 pub member-returns-in_default : goal.member-returns-in_default
-member-returns-in_default t c = record { answers = members.related-answers (nodes.unequal c.in_default.in_default-own.rest.0.1) (nodes.unequal c.in_default.in_default-own.rest.1) (nodes.read c.pair.type_inv ∙ c.pair.ensures) c.has-in_default.ensures c.asked-in_default.ensures (nodes.heard c.part-x-in_default.type_inv c.part-x-in_default.ensures.answers) (nodes.heard-at c.part-x-in_default.ensures.kept c.part-y.type_inv c.part-y.ensures.answers) (nodes.heard-at (c.part-y.ensures.kept ∙ c.part-x-in_default.ensures.kept) c.part-s-in_default.type_inv c.part-s-in_default.ensures.answers); kept = c.part-s-in_default.ensures.kept ∙ (c.part-y.ensures.kept ∙ c.part-x-in_default.ensures.kept) }
+member-returns-in_default t c = record { answers = members.related-answers (nodes.unequal c.in_default.in_default-own.rest.0.1) (nodes.unequal c.in_default.in_default-own.rest.1) (nodes.read c.pair.type_inv ∙ c.pair.ensures) c.has-in_default.ensures c.asked-in_default.ensures (nodes.heard c.value-x-in_default.type_inv c.value-x-in_default.ensures.answers) (nodes.heard-at c.value-x-in_default.ensures.kept c.value-y.type_inv c.value-y.ensures.answers) (nodes.heard-at (c.value-y.ensures.kept ∙ c.value-x-in_default.ensures.kept) c.value-s-in_default.type_inv c.value-s-in_default.ensures.answers); kept = c.value-s-in_default.ensures.kept ∙ (c.value-y.ensures.kept ∙ c.value-x-in_default.ensures.kept) }
 
 pub once-loop-k-init : goal.once-loop-k-init
 once-loop-k-init t c = (omega arith, (λ v. refl), loops.once-start)
@@ -208,23 +208,23 @@ once-loop-k-preserved t c = (loops.counted-small c.loop-k.found c.loop-k.k c.hol
 pub once-returns : goal.once-returns
 once-returns t c = record { answers = loops.once-done {k = c.loop-k.k} c.loop-k.invariant.2 (omega arith); kept = loops.given_back c.loop-k.slots c.args.slots.now (get_or c.args.t.now (c.args.end - 3) 0) c.loop-k.invariant.1 (to_z-of_z {w = w64} (search rules)) }
 
-pub part-offset_bounds-slots-t : goal.part-offset_bounds-slots-t
-part-offset_bounds-slots-t t c = let low = nodes.slot_low c.if-shape-eq-SLOT.true c.requires.term_runs in omega arith
+pub value-offset_bounds-slots-t : goal.value-offset_bounds-slots-t
+value-offset_bounds-slots-t t c = let low = nodes.slot_low c.if-shape-eq-SLOT.true c.requires.term_runs in omega arith
 
-pub part-bounds-slots-t : goal.part-bounds-slots-t
-part-bounds-slots-t t c = nodes.slot_low c.if-shape-eq-SLOT.true c.requires.term_runs
+pub value-bounds-slots-t : goal.value-bounds-slots-t
+value-bounds-slots-t t c = nodes.slot_low c.if-shape-eq-SLOT.true c.requires.term_runs
 
-pub part-returns-then-shape-eq-SLOT : goal.part-returns-then-shape-eq-SLOT
-part-returns-then-shape-eq-SLOT t c = record { answers = nodes.slot-answers c.if-shape-eq-SLOT.true (to_z-of_z {w = w64} (search rules)); kept = refl }
+pub value-returns-then-shape-eq-SLOT : goal.value-returns-then-shape-eq-SLOT
+value-returns-then-shape-eq-SLOT t c = record { answers = nodes.slot-answers c.if-shape-eq-SLOT.true (to_z-of_z {w = w64} (search rules)); kept = refl }
 
-pub part-returns-then-shape-eq-VALUE : goal.part-returns-then-shape-eq-VALUE
-part-returns-then-shape-eq-VALUE t c = record { answers = nodes.number-answers c.if-shape-eq-VALUE.true (nodes.read c.from.type_inv ∙ c.from.ensures); kept = refl }
+pub value-returns-then-shape-eq-VALUE : goal.value-returns-then-shape-eq-VALUE
+value-returns-then-shape-eq-VALUE t c = record { answers = nodes.number-answers c.if-shape-eq-VALUE.true (nodes.read c.from.type_inv ∙ c.from.ensures); kept = refl }
 
-pub part-value-requires : goal.part-value-requires
-part-value-requires t c = (omega arith, (c.requires.inside, c.requires.term_runs))
+pub value-compound-requires : goal.value-compound-requires
+value-compound-requires t c = (omega arith, (c.requires.inside, (c.requires.term_runs, record { no_number = nodes.unequal c.if-shape-eq-VALUE.false; no_slot = nodes.unequal c.if-shape-eq-SLOT.false })))
 
-pub part-returns : goal.part-returns
-part-returns t c = record { answers = nodes.heard c.value.type_inv c.value.ensures.answers; kept = c.value.ensures.kept }
+pub value-returns : goal.value-returns
+value-returns t c = record { answers = nodes.heard c.compound.type_inv c.compound.ensures.answers; kept = c.compound.ensures.kept }
 
 pub quantified-some-requires : goal.quantified-some-requires
 quantified-some-requires t c = (omega arith, (c.requires.inside, truths.bound-runs c.requires.quantifier_runs))
@@ -283,59 +283,44 @@ such-loop-k-preserved t c = (omega arith, loops.still c.loop-k.slots c.args.slot
 pub such-returns : goal.such-returns
 such-returns t c = record { answers = loops.such-done {k = c.loop-k.k} c.loop-k.invariant.2 (omega arith) (nodes.read c.from-2.type_inv ∙ c.from-2.ensures); kept = loops.given_back c.loop-k.slots c.args.slots.now (get_or c.args.t.now (c.args.end - 3) 0) c.loop-k.invariant.1 (to_z-of_z {w = w64} (search rules)) }
 
-pub value-overflow_cast-result : goal.value-overflow_cast-result
-value-overflow_cast-result t c = let low = nodes.slot_low c.in-2.is c.requires.term_runs in let inside = c.requires.inside in omega arith
+pub compound-value-x-requires : goal.compound-value-x-requires
+compound-value-x-requires t c = (omega arith, nodes.prefix-part c.in-3.is c.requires.term_runs)
 
-pub value-offset_bounds-slots-first : goal.value-offset_bounds-slots-first
-value-offset_bounds-slots-first t c = let low = nodes.slot_low c.in-2.is c.requires.term_runs in omega arith
+pub compound-prefixed-requires : goal.compound-prefixed-requires
+compound-prefixed-requires t c = nodes.prefix-takes c.in-3.is c.requires.term_runs (nodes.heard c.value-x.type_inv c.value-x.ensures.answers)
 
-pub value-bounds-slots-first : goal.value-bounds-slots-first
-value-bounds-slots-first t c = nodes.slot_low c.in-2.is c.requires.term_runs
+pub compound-value-x-requires-in-4 : goal.compound-value-x-requires-in-4
+compound-value-x-requires-in-4 t c = (omega arith, nodes.division-part c.in-4.is c.requires.term_runs)
 
-pub value-part-x-requires : goal.value-part-x-requires
-value-part-x-requires t c = (omega arith, nodes.prefix-part c.in-3.is c.requires.term_runs)
+pub compound-divided-requires : goal.compound-divided-requires
+compound-divided-requires t c = nodes.division-takes c.in-4.is c.requires.term_runs (nodes.heard c.value-x-in-4.type_inv c.value-x-in-4.ensures.answers)
 
-pub value-prefixed-requires : goal.value-prefixed-requires
-value-prefixed-requires t c = nodes.prefix-takes c.in-3.is c.requires.term_runs (nodes.heard c.part-x.type_inv c.part-x.ensures.answers)
+pub compound-value-x-requires-in-5 : goal.compound-value-x-requires-in-5
+compound-value-x-requires-in-5 t c = (let below = nodes.operator-before c.in-5.is c.requires.term_runs in omega arith, nodes.operator-left c.in-5.is c.requires.term_runs)
 
-pub value-part-x-requires-in-4 : goal.value-part-x-requires-in-4
-value-part-x-requires-in-4 t c = (omega arith, nodes.division-part c.in-4.is c.requires.term_runs)
+pub compound-value-y-requires : goal.compound-value-y-requires
+compound-value-y-requires t c = (omega arith, nodes.runs-at c.value-x-in-5.ensures.kept (nodes.operator-right c.in-5.is c.requires.term_runs))
 
-pub value-divided-requires : goal.value-divided-requires
-value-divided-requires t c = nodes.division-takes c.in-4.is c.requires.term_runs (nodes.heard c.part-x-in-4.type_inv c.part-x-in-4.ensures.answers)
+pub compound-operated-requires : goal.compound-operated-requires
+compound-operated-requires t c = nodes.operator-takes c.in-5.is c.requires.term_runs (nodes.heard c.value-x-in-5.type_inv c.value-x-in-5.ensures.answers) (nodes.heard-at c.value-x-in-5.ensures.kept c.value-y.type_inv c.value-y.ensures.answers)
 
-pub value-part-x-requires-in-5 : goal.value-part-x-requires-in-5
-value-part-x-requires-in-5 t c = (let below = nodes.operator-before c.in-5.is c.requires.term_runs in omega arith, nodes.operator-left c.in-5.is c.requires.term_runs)
+pub compound-such-requires : goal.compound-such-requires
+compound-such-requires t c = (omega arith, (c.requires.inside, nodes.such-runs c.in-6.is c.requires.term_runs))
 
-pub value-part-y-requires : goal.value-part-y-requires
-value-part-y-requires t c = (omega arith, nodes.runs-at c.part-x-in-5.ensures.kept (nodes.operator-right c.in-5.is c.requires.term_runs))
+pub compound-items-requires : goal.compound-items-requires
+compound-items-requires t c = (omega arith, nodes.brace-part c.requires.is_compound.no_number c.requires.is_compound.no_slot (nodes.unequal c.in_default.in_default-own.rest.0.0.0.1) (nodes.unequal c.in_default.in_default-own.rest.0.0.1) (nodes.unequal c.in_default.in_default-own.rest.0.1) (nodes.unequal c.in_default.in_default-own.rest.1) c.requires.term_runs)
 
-pub value-operated-requires : goal.value-operated-requires
-value-operated-requires t c = nodes.operator-takes c.in-5.is c.requires.term_runs (nodes.heard c.part-x-in-5.type_inv c.part-x-in-5.ensures.answers) (nodes.heard-at c.part-x-in-5.ensures.kept c.part-y.type_inv c.part-y.ensures.answers)
+pub compound-returns-in-3 : goal.compound-returns-in-3
+compound-returns-in-3 t c = record { answers = nodes.prefix-answers c.in-3.is (nodes.read c.prefixed.type_inv ∙ c.prefixed.ensures) (nodes.heard c.value-x.type_inv c.value-x.ensures.answers); kept = c.value-x.ensures.kept }
 
-pub value-such-requires : goal.value-such-requires
-value-such-requires t c = (omega arith, (c.requires.inside, nodes.such-runs c.in-6.is c.requires.term_runs))
+pub compound-returns-in-4 : goal.compound-returns-in-4
+compound-returns-in-4 t c = record { answers = nodes.division-answers c.in-4.is (nodes.read c.divided.type_inv ∙ c.divided.ensures) (nodes.heard c.value-x-in-4.type_inv c.value-x-in-4.ensures.answers); kept = c.value-x-in-4.ensures.kept }
 
-pub value-items-requires : goal.value-items-requires
-value-items-requires t c = (omega arith, nodes.brace-part (nodes.unequal c.in_default.in_default-own.rest.0.0.0.0.0.1) (nodes.unequal c.in_default.in_default-own.rest.0.0.0.0.1) (nodes.unequal c.in_default.in_default-own.rest.0.0.0.1) (nodes.unequal c.in_default.in_default-own.rest.0.0.1) (nodes.unequal c.in_default.in_default-own.rest.0.1) (nodes.unequal c.in_default.in_default-own.rest.1) c.requires.term_runs)
+pub compound-returns-in-5 : goal.compound-returns-in-5
+compound-returns-in-5 t c = record { answers = nodes.operator-answers c.in-5.is (nodes.read c.operated.type_inv ∙ c.operated.ensures) (nodes.heard c.value-x-in-5.type_inv c.value-x-in-5.ensures.answers) (nodes.heard-at c.value-x-in-5.ensures.kept c.value-y.type_inv c.value-y.ensures.answers); kept = c.value-y.ensures.kept ∙ c.value-x-in-5.ensures.kept }
 
-pub value-returns-in-1 : goal.value-returns-in-1
-value-returns-in-1 t c = record { answers = nodes.number-answers c.in-1.is (nodes.read c.from.type_inv ∙ c.from.ensures); kept = refl }
+pub compound-returns-in-6 : goal.compound-returns-in-6
+compound-returns-in-6 t c = record { answers = nodes.such-answers c.in-6.is c.such.type_inv c.such.ensures.answers; kept = c.such.ensures.kept }
 
-pub value-returns-in-2 : goal.value-returns-in-2
-value-returns-in-2 t c = record { answers = nodes.slot-answers c.in-2.is (to_z-of_z {w = w64} (search rules)); kept = refl }
-
-pub value-returns-in-3 : goal.value-returns-in-3
-value-returns-in-3 t c = record { answers = nodes.prefix-answers c.in-3.is (nodes.read c.prefixed.type_inv ∙ c.prefixed.ensures) (nodes.heard c.part-x.type_inv c.part-x.ensures.answers); kept = c.part-x.ensures.kept }
-
-pub value-returns-in-4 : goal.value-returns-in-4
-value-returns-in-4 t c = record { answers = nodes.division-answers c.in-4.is (nodes.read c.divided.type_inv ∙ c.divided.ensures) (nodes.heard c.part-x-in-4.type_inv c.part-x-in-4.ensures.answers); kept = c.part-x-in-4.ensures.kept }
-
-pub value-returns-in-5 : goal.value-returns-in-5
-value-returns-in-5 t c = record { answers = nodes.operator-answers c.in-5.is (nodes.read c.operated.type_inv ∙ c.operated.ensures) (nodes.heard c.part-x-in-5.type_inv c.part-x-in-5.ensures.answers) (nodes.heard-at c.part-x-in-5.ensures.kept c.part-y.type_inv c.part-y.ensures.answers); kept = c.part-y.ensures.kept ∙ c.part-x-in-5.ensures.kept }
-
-pub value-returns-in-6 : goal.value-returns-in-6
-value-returns-in-6 t c = record { answers = nodes.such-answers c.in-6.is c.such.type_inv c.such.ensures.answers; kept = c.such.ensures.kept }
-
-pub value-returns-in_default : goal.value-returns-in_default
-value-returns-in_default t c = record { answers = nodes.brace-answers (nodes.unequal c.in_default.in_default-own.rest.0.0.0.0.0.1) (nodes.unequal c.in_default.in_default-own.rest.0.0.0.0.1) (nodes.unequal c.in_default.in_default-own.rest.0.0.0.1) (nodes.unequal c.in_default.in_default-own.rest.0.0.1) (nodes.unequal c.in_default.in_default-own.rest.0.1) (nodes.unequal c.in_default.in_default-own.rest.1) c.items.type_inv c.items.ensures.answers; kept = c.items.ensures.kept }
+pub compound-returns-in_default : goal.compound-returns-in_default
+compound-returns-in_default t c = record { answers = nodes.brace-answers c.requires.is_compound.no_number c.requires.is_compound.no_slot (nodes.unequal c.in_default.in_default-own.rest.0.0.0.1) (nodes.unequal c.in_default.in_default-own.rest.0.0.1) (nodes.unequal c.in_default.in_default-own.rest.0.1) (nodes.unequal c.in_default.in_default-own.rest.1) c.items.type_inv c.items.ensures.answers; kept = c.items.ensures.kept }

@@ -17,8 +17,8 @@ decreases-member l = 4 * l.end + 2
 abbrev pub decreases-once : goal.decreases-once
 decreases-once l = 4 * l.end + 1
 
-abbrev pub decreases-part : goal.decreases-part
-decreases-part l = 4 * l.end + 3
+abbrev pub decreases-value : goal.decreases-value
+decreases-value l = 4 * l.end + 3
 
 abbrev pub decreases-quantified : goal.decreases-quantified
 decreases-quantified l = 4 * l.end + 2
@@ -29,8 +29,8 @@ decreases-some l = 4 * l.end + 1
 abbrev pub decreases-such : goal.decreases-such
 decreases-such l = 4 * l.end + 1
 
-abbrev pub decreases-value : goal.decreases-value
-decreases-value l = 4 * l.end + 2
+abbrev pub decreases-compound : goal.decreases-compound
+decreases-compound l = 4 * l.end + 2
 
 abbrev pub invariant-once-loop-k : goal.invariant-once-loop-k
 invariant-once-loop-k l = (l.found ≤ l.k) × ((v : ℤ) → set l.slots l.slot v ≡ set l.initial.slots l.slot v) × OnceSoFar l.t l.end l.initial.slots l.k l.found

@@ -5,5 +5,5 @@ use Rattle.text_readings.proofs.LentArrays.{reads_lent}
 use Rattle.explanations.proofs.VerdictSearch.{read_asked}
 use Rattle.explanations.proofs.explain.Goals as goal
 
-pub invariant_of-r : goal.invariant_of-r
-invariant_of-r c = read_asked (reads_lent c.dossier-d.ensures c.read-answer.ensures) (c.in-Ok.is ∙ ap Ok (sym c.dossier-d.ensures.operations_are))
+pub invariant_of-dossier : goal.invariant_of-dossier
+invariant_of-dossier c = read_asked (reads_lent c.dossier-arrays.ensures c.read-answer.ensures) (c.in-Ok.is ∙ ap Ok (sym c.dossier-arrays.ensures.operations_are))

@@ -7,17 +7,12 @@ use mathlib.Core.Path.{◌≡◌, ap, ◌∙◌}
 use native.Mathlib.Omega.{arith}
 use Rattle.table_nodes.specs.TableWalkPromises.{patch}
 use Rattle.held_checks.specs.HeldBytes.{little_endian}
+use Rattle.held_checks.proofs.ByteSteps.{number-laid}
 use Rattle.held_checks.proofs.LayoutLaws.{laid-anew}
 use Rattle.held_checks.proofs.lay.Goals as goal
-
-pub put_number-requires : goal.put_number-requires
-put_number-requires c = let cleared : length c.clear.new.held ≡ 32784 = search rules in (omega (arith, (length-set c.clear.new.held 0 c.into.result ∙ cleared)), omega arith)
-
-pub put_text-requires : goal.put_text-requires
-put_text-requires c = let cleared : length c.clear.new.held ≡ 32784 = search rules in omega (arith, c.put_number.auto.held, (length-set c.clear.new.held 0 c.into.result ∙ cleared))
 
 pub returns : goal.returns
 returns c = laid-anew c.args.text.now _
     (c.put_text.ensures
     ∙ ap (λ (w : List ℕ). patch 16 c.args.text.now w)
-    (c.put_number.ensures ∙ ap (λ (k : ℕ). patch 4 (little_endian 4 (length c.args.text.now)) (set c.clear.new.held 0 k)) c.into.ensures ∙ ap (λ (w : List ℕ). patch 4 (little_endian 4 (length c.args.text.now)) (set w 0 1)) c.clear.ensures))
+    (number-laid 4 4 (length c.args.text.now) (set c.clear.new.held 0 c.into.result) (omega (arith, length-set c.clear.new.held 0 c.into.result, (let cleared : length c.clear.new.held ≡ 32784 = search rules in cleared))) c.put_number.ensures ∙ ap (λ (k : ℕ). patch 4 (little_endian 4 (length c.args.text.now)) (set c.clear.new.held 0 k)) c.into.ensures ∙ ap (λ (w : List ℕ). patch 4 (little_endian 4 (length c.args.text.now)) (set w 0 1)) c.clear.ensures))

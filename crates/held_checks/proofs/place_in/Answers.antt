@@ -4,4 +4,4 @@ use Rattle.held_checks.proofs.place_in.Goals as goal
 
 pub returns : goal.returns
 unfolding held_place
-returns c = c.number.ensures.is
+returns c = c.number.ensures

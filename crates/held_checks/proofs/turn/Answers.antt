@@ -6,11 +6,9 @@ use Rattle.table_nodes.specs.TableWalkPromises.{patch}
 use Rattle.held_checks.specs.HeldBytes.{little_endian}
 use Rattle.held_checks.specs.StepPromises.{mark_byte}
 use native.Mathlib.Omega.{arith}
+use Rattle.held_checks.proofs.ByteSteps.{number-laid}
 use Rattle.held_checks.proofs.LayoutLaws.{turned}
 use Rattle.held_checks.proofs.turn.Goals as goal
 
-pub put_number-requires : goal.put_number-requires
-put_number-requires c = (omega (arith, (length-set c.args.held.now 0 c.into.result)), omega arith)
-
 pub returns : goal.returns
-returns c = turned c.args.held.now _ c.args.place (mark_byte c.args.mark) (c.put_number.ensures ∙ ap (λ (k : ℕ). patch 8 (little_endian 8 c.args.place) (set c.args.held.now 0 k)) c.into.ensures)
+returns c = turned c.args.held.now _ c.args.place (mark_byte c.args.mark) (number-laid 8 8 c.args.place (set c.args.held.now 0 c.into.result) (omega (arith, length-set c.args.held.now 0 c.into.result)) c.put_number.ensures ∙ ap (λ (k : ℕ). patch 8 (little_endian 8 c.args.place) (set c.args.held.now 0 k)) c.into.ensures)

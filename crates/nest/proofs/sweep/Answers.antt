@@ -56,7 +56,7 @@ pub overflow_mul-a : goal.overflow_mul-a
 overflow_mul-a c = omega (arith, small-ac c.requires.nest_asked.nest.sized c.abstracts.a (le_of_lt c.abstracts-test.true))
 
 pub next_open_concrete-c-requires : goal.next_open_concrete-c-requires
-next_open_concrete-c-requires c = record { c_le_nc = enter-high _ _ _ _ _ c.requires.nest_asked.nest.sized.few_c.0 (some-concrete c.requires.nest_asked.nest.sized) c.abstracts.invariant.0.low c.saturating_sub-start.ensures; nest_asked = asked-after (λ G. G.inputs ++ G.readying) c.abstracts.invariant.0.asked c.ready-mask.ensures.answers.left; memo = c.ready-mask.ensures.remembers; pairs_seen = c.abstracts.invariant.5 }
+next_open_concrete-c-requires c = record { c_le_nc = enter-high _ _ _ _ _ c.requires.nest_asked.nest.sized.some_c (some-concrete c.requires.nest_asked.nest.sized) c.abstracts.invariant.0.low c.saturating_sub-start.ensures; nest_asked = asked-after (λ G. G.inputs ++ G.readying) c.abstracts.invariant.0.asked c.ready-mask.ensures.answers.left; memo = c.ready-mask.ensures.remembers; pairs_seen = c.abstracts.invariant.5 }
 
 pub loop-c-init : goal.loop-c-init
 loop-c-init c = (enter-concretes c.abstracts.invariant.0 c.abstracts-test.true c.ready-mask.ensures.answers c.saturating_sub-start.ensures c.pair_mark-mark.ensures c.next_open_concrete-c.ensures.answers, c.abstracts.invariant.1, c.abstracts.invariant.2, c.next_open_concrete-c.ensures.remembers, c.abstracts.invariant.4, c.abstracts.invariant.5)
@@ -77,7 +77,7 @@ pub overflow_mul-x-in-loop-c : goal.overflow_mul-x-in-loop-c
 overflow_mul-x-in-loop-c c = omega (arith, small-xi c.requires.nest_asked.nest.sized c.abstracts.a (le_of_lt c.abstracts-test.true) c.loop-c.c (le_of_lt c.loop-c-test.true))
 
 pub next_input-i-requires : goal.next_input-i-requires
-next_input-i-requires c = record { from_le_ni = enter-high _ _ _ _ _ c.requires.nest_asked.nest.sized.few_i.0 (some-input c.requires.nest_asked.nest.sized) c.loop-c.invariant.0.low c.saturating_sub-start-in-loop-c.ensures; input_asked = record { table = _; plan = _; asked = c.loop-c.invariant.0.asked } }
+next_input-i-requires c = record { from_le_ni = enter-high _ _ _ _ _ c.requires.nest_asked.nest.sized.some_i (some-input c.requires.nest_asked.nest.sized) c.loop-c.invariant.0.low c.saturating_sub-start-in-loop-c.ensures; input_asked = record { table = _; plan = _; asked = c.loop-c.invariant.0.asked } }
 
 pub loop-i-init : goal.loop-i-init
 loop-i-init c = (enter-inputs c.loop-c.invariant.0 c.loop-c-test.true c.saturating_sub-start-in-loop-c.ensures c.next_input-i.ensures, c.loop-c.invariant.1, c.loop-c.invariant.2, c.loop-c.invariant.3, c.loop-c.invariant.4, c.loop-c.invariant.5)
@@ -89,13 +89,13 @@ pub overflow_add-y : goal.overflow_add-y
 overflow_add-y c = omega (arith, small-y c.requires.nest_asked.nest.sized c.abstracts.a (le_of_lt c.abstracts-test.true) c.loop-c.c (le_of_lt c.loop-c-test.true) c.loop-i.i (le_of_lt c.loop-i-test.true))
 
 pub nonzero_div-from-in-loop-i : goal.nonzero_div-from-in-loop-i
-nonzero_div-from-in-loop-i c = omega (arith, c.requires.nest_asked.nest.sized.few_k.0)
+nonzero_div-from-in-loop-i c = omega (arith, c.requires.nest_asked.nest.sized.some_k)
 
 pub overflow_mul-y-in-loop-i : goal.overflow_mul-y-in-loop-i
 overflow_mul-y-in-loop-i c = omega (arith, small-yq c.requires.nest_asked.nest.sized c.abstracts.a (le_of_lt c.abstracts-test.true) c.loop-c.c (le_of_lt c.loop-c-test.true) c.loop-i.i (le_of_lt c.loop-i-test.true))
 
 pub next_output-o-requires : goal.next_output-o-requires
-next_output-o-requires c = record { o_le_nq = enter-high _ _ _ _ _ c.requires.nest_asked.nest.sized.few_o.0 c.requires.nest_asked.nest.sized.few_k.0 c.loop-i.invariant.0.low c.saturating_sub-start-in-loop-i.ensures; nest_asked = c.loop-i.invariant.0.asked; memo = c.loop-i.invariant.3 }
+next_output-o-requires c = record { o_le_nq = enter-high _ _ _ _ _ c.requires.nest_asked.nest.sized.some_o c.requires.nest_asked.nest.sized.some_k c.loop-i.invariant.0.low c.saturating_sub-start-in-loop-i.ensures; nest_asked = c.loop-i.invariant.0.asked; memo = c.loop-i.invariant.3 }
 
 pub loop-o-init : goal.loop-o-init
 loop-o-init c = (enter-outputs c.loop-i.invariant.0 c.loop-i-test.true c.saturating_sub-start-in-loop-i.ensures c.next_output-o.ensures.answers, c.loop-i.invariant.1, c.loop-i.invariant.2, c.next_output-o.ensures.remembers, c.loop-i.invariant.4, c.loop-i.invariant.5)
@@ -110,7 +110,7 @@ pub overflow_mul-z-in-loop-o : goal.overflow_mul-z-in-loop-o
 overflow_mul-z-in-loop-o c = omega (arith, small-zk c.requires.nest_asked.nest.sized c.abstracts.a (le_of_lt c.abstracts-test.true) c.loop-c.c (le_of_lt c.loop-c-test.true) c.loop-i.i (le_of_lt c.loop-i-test.true) c.loop-o.o (le_of_lt c.loop-o-test.true))
 
 pub next_after-k-requires : goal.next_after-k-requires
-next_after-k-requires c = record { k_le_nk = enter-last _ _ _ _ c.requires.nest_asked.nest.sized.few_k.0 c.loop-o.invariant.0.low c.saturating_sub-start-in-loop-o.ensures; nest_asked = c.loop-o.invariant.0.asked; memo = c.loop-o.invariant.3 }
+next_after-k-requires c = record { k_le_nk = enter-last _ _ _ _ c.requires.nest_asked.nest.sized.some_k c.loop-o.invariant.0.low c.saturating_sub-start-in-loop-o.ensures; nest_asked = c.loop-o.invariant.0.asked; memo = c.loop-o.invariant.3 }
 
 pub loop-k-init : goal.loop-k-init
 loop-k-init c = (enter_afters c.loop-o.invariant.0 c.loop-o-test.true c.saturating_sub-start-in-loop-o.ensures c.next_after-k.ensures.answers, c.loop-o.invariant.1, c.loop-o.invariant.2, c.next_after-k.ensures.remembers, c.loop-o.invariant.4, c.loop-o.invariant.5)
@@ -119,13 +119,13 @@ pub overflow_mul-place : goal.overflow_mul-place
 overflow_mul-place c = omega (arith, small-zk c.requires.nest_asked.nest.sized c.abstracts.a (le_of_lt c.abstracts-test.true) c.loop-c.c (le_of_lt c.loop-c-test.true) c.loop-i.i (le_of_lt c.loop-i-test.true) c.loop-o.o (le_of_lt c.loop-o-test.true))
 
 pub overflow_add-place : goal.overflow_add-place
-overflow_add-place c = omega (arith, small-zk c.requires.nest_asked.nest.sized c.abstracts.a (le_of_lt c.abstracts-test.true) c.loop-c.c (le_of_lt c.loop-c-test.true) c.loop-i.i (le_of_lt c.loop-i-test.true) c.loop-o.o (le_of_lt c.loop-o-test.true), c.loop-k-test.true, c.requires.nest_asked.nest.sized.few_k.1)
+overflow_add-place c = omega (arith, small-zk c.requires.nest_asked.nest.sized c.abstracts.a (le_of_lt c.abstracts-test.true) c.loop-c.c (le_of_lt c.loop-c-test.true) c.loop-i.i (le_of_lt c.loop-i-test.true) c.loop-o.o (le_of_lt c.loop-o-test.true), c.loop-k-test.true, c.requires.nest_asked.nest.sized.primes.few)
 
 pub passes_again-requires : goal.passes_again-requires
 passes_again-requires c = record { binding_asked = binding-here c.loop-k.invariant.0 c.abstracts-test.true c.loop-c-test.true c.loop-i-test.true c.loop-o-test.true c.loop-k-test.true; remembered = c.loop-k.invariant.2; memo = c.loop-k.invariant.3 }
 
 pub overflow_add-k : goal.overflow_add-k
-overflow_add-k c = omega (arith, c.loop-k-test.true, c.requires.nest_asked.nest.sized.few_k.1)
+overflow_add-k c = omega (arith, c.loop-k-test.true, c.requires.nest_asked.nest.sized.primes.few)
 
 pub next_after-k-requires-in-loop-k : goal.next_after-k-requires-in-loop-k
 next_after-k-requires-in-loop-k c = record { k_le_nk = omega (arith, c.loop-k-test.true); nest_asked = asked-after (λ G. G.meeting) c.loop-k.invariant.0.asked c.passes_again.ensures.answers.left; memo = c.passes_again.ensures.remembers }
@@ -137,7 +137,7 @@ pub loop-k-preserved : goal.loop-k-preserved
 loop-k-preserved c = (again-afters c.loop-k.invariant.0 c.loop-k-test.true c.passes_again.ensures.answers (not-false _ c.if-not-passes_again.false-raw) c.next_after-k-in-loop-k.ensures.answers, c.loop-k.invariant.1, c.passes_again.ensures.answers.remembered, c.next_after-k-in-loop-k.ensures.remembers, c.loop-k.invariant.4, c.loop-k.invariant.5)
 
 pub overflow_add-o : goal.overflow_add-o
-overflow_add-o c = omega (arith, c.loop-o-test.true, c.requires.nest_asked.nest.sized.few_o.1)
+overflow_add-o c = omega (arith, c.loop-o-test.true, c.requires.nest_asked.nest.sized.outputs.few)
 
 pub next_output-o-requires-in-loop-o : goal.next_output-o-requires-in-loop-o
 next_output-o-requires-in-loop-o c = record { o_le_nq = omega (arith, c.loop-o-test.true); nest_asked = c.loop-k.invariant.0.asked; memo = c.loop-k.invariant.3 }
@@ -149,7 +149,7 @@ pub loop-o-preserved : goal.loop-o-preserved
 loop-o-preserved c = (again-outputs c.loop-o.invariant.0 c.loop-k.invariant.0 (omega (arith, c.loop-k-test.false)) c.next_output-o-in-loop-o.ensures.answers, c.loop-k.invariant.1, c.loop-k.invariant.2, c.next_output-o-in-loop-o.ensures.remembers, c.loop-k.invariant.4, c.loop-k.invariant.5)
 
 pub overflow_add-i : goal.overflow_add-i
-overflow_add-i c = omega (arith, c.loop-i-test.true, c.requires.nest_asked.nest.sized.few_i.1)
+overflow_add-i c = omega (arith, c.loop-i-test.true, c.requires.nest_asked.nest.sized.inputs.few)
 
 pub next_input-i-requires-in-loop-i : goal.next_input-i-requires-in-loop-i
 next_input-i-requires-in-loop-i c = record { from_le_ni = omega (arith, c.loop-i-test.true); input_asked = record { table = _; plan = _; asked = c.loop-o.invariant.0.asked } }
@@ -161,10 +161,10 @@ pub loop-i-preserved : goal.loop-i-preserved
 loop-i-preserved c = (again-inputs c.loop-i.invariant.0 c.loop-o.invariant.0 (omega (arith, c.loop-o-test.false)) c.next_input-i-in-loop-i.ensures, c.loop-o.invariant.1, c.loop-o.invariant.2, c.loop-o.invariant.3, c.loop-o.invariant.4, c.loop-o.invariant.5)
 
 pub make_mark-requires : goal.make_mark-requires
-make_mark-requires c = record { key_asked = asked-in c.concrete_group-concretes.ensures (concrete-asked c.requires.nest_asked.nest c.masks_of-masks.result); x_lt_count = omega (arith, c.loop-c-test.true, ap (λ (g : KeyGroup). g.count) c.concrete_group-concretes.ensures) }
+make_mark-requires c = record { key_asked = asked-in c.concrete_group-concretes.ensures (concrete-asked c.requires.nest_asked.nest c.masks_of-masks.result); x_lt_count = omega (arith, c.loop-c-test.true, ap (λ (g : KeyGroup). g.size.bindings) c.concrete_group-concretes.ensures) }
 
 pub overflow_add-c : goal.overflow_add-c
-overflow_add-c c = omega (arith, c.loop-c-test.true, c.requires.nest_asked.nest.sized.few_c.1)
+overflow_add-c c = omega (arith, c.loop-c-test.true, c.requires.nest_asked.nest.sized.concretes.few)
 
 pub next_open_concrete-c-requires-in-loop-c : goal.next_open_concrete-c-requires-in-loop-c
 next_open_concrete-c-requires-in-loop-c c = record { c_le_nc = omega (arith, c.loop-c-test.true); nest_asked = c.loop-i.invariant.0.asked; memo = c.loop-i.invariant.3; pairs_seen = (pair-marked c.masks_of-masks.ensures c.abstracts-test.true c.loop-i.invariant.5 c.loop-i.invariant.0 (omega (arith, c.loop-i-test.false)) c.loop-c-test.true c.pair_mark-mark.ensures c.is_within.ensures (marked-in _ _ c.concrete_group-concretes.ensures (let made : Marked c.is_within.result (key_in c.args.s.now.cells.now c.concrete_group-concretes.result c.loop-c.c) c.pair_mark-mark.result c.loop-c.seen c.if-is_within.seen = elim c.if-is_within.branch [ then-is_within w ↦ mark-made w.seen-is w.make_mark.ensures w.if-is_within.true | else-is_within w ↦ mark-none w.seen-is ] in made))) }
@@ -176,10 +176,10 @@ pub loop-c-preserved : goal.loop-c-preserved
 loop-c-preserved c = (again-concretes c.loop-c.invariant.0 c.loop-i.invariant.0 (omega (arith, c.loop-i-test.false)) c.pair_mark-mark.ensures c.next_open_concrete-c-in-loop-c.ensures.answers, c.loop-i.invariant.1, c.loop-i.invariant.2, c.next_open_concrete-c-in-loop-c.ensures.remembers, c.loop-i.invariant.4, (pair-marked c.masks_of-masks.ensures c.abstracts-test.true c.loop-i.invariant.5 c.loop-i.invariant.0 (omega (arith, c.loop-i-test.false)) c.loop-c-test.true c.pair_mark-mark.ensures c.is_within.ensures (marked-in _ _ c.concrete_group-concretes.ensures (let made : Marked c.is_within.result (key_in c.args.s.now.cells.now c.concrete_group-concretes.result c.loop-c.c) c.pair_mark-mark.result c.loop-c.seen c.if-is_within.seen = elim c.if-is_within.branch [ then-is_within w ↦ mark-made w.seen-is w.make_mark.ensures w.if-is_within.true | else-is_within w ↦ mark-none w.seen-is ] in made))))
 
 pub make_mark-requires-then-is_within-2 : goal.make_mark-requires-then-is_within-2
-make_mark-requires-then-is_within-2 c = record { key_asked = asked-in c.whole_group-wholes.ensures (whole-asked c.requires.nest_asked.nest c.masks_of-masks.result); x_lt_count = omega (arith, c.abstracts-test.true, ap (λ (g : KeyGroup). g.count) c.whole_group-wholes.ensures) }
+make_mark-requires-then-is_within-2 c = record { key_asked = asked-in c.whole_group-wholes.ensures (whole-asked c.requires.nest_asked.nest c.masks_of-masks.result); x_lt_count = omega (arith, c.abstracts-test.true, ap (λ (g : KeyGroup). g.size.bindings) c.whole_group-wholes.ensures) }
 
 pub overflow_add-a : goal.overflow_add-a
-overflow_add-a c = omega (arith, c.abstracts-test.true, c.requires.nest_asked.nest.sized.few_a.1)
+overflow_add-a c = omega (arith, c.abstracts-test.true, c.requires.nest_asked.nest.sized.abstracts.few)
 
 pub next_open_abstract-a-requires-in-abstracts : goal.next_open_abstract-a-requires-in-abstracts
 next_open_abstract-a-requires-in-abstracts c = record { a_le_na = omega (arith, c.abstracts-test.true); nest_asked = c.loop-c.invariant.0.asked; memo = c.loop-c.invariant.3; wholes_seen = (whole-marked c.masks_of-masks.ensures c.abstracts-test.true c.loop-c.invariant.4 c.loop-c.invariant.0 (omega (arith, c.loop-c-test.false)) c.is_within-in-abstracts.ensures (marked-in _ _ c.whole_group-wholes.ensures (let made : Marked c.is_within-in-abstracts.result (key_in c.args.s.now.cells.now c.whole_group-wholes.result c.abstracts.a) 1 c.abstracts.done c.if-is_within-2.done = elim c.if-is_within-2.branch [ then-is_within-2 w ↦ mark-made w.done-is w.make_mark-then-is_within-2.ensures w.if-is_within-2.true | else-is_within-2 w ↦ mark-none w.done-is ] in made))) }

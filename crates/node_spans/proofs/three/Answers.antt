@@ -3,4 +3,4 @@ use Rattle.node_spans.proofs.SpanWrites as laws
 use Rattle.node_spans.proofs.three.Goals as goal
 
 pub returns : goal.returns
-returns c = laws.three c.put.ensures c.put-2.ensures c.put-3.ensures
+returns c = laws.three c.put_number.ensures c.put_number-2.ensures c.put_number-3.ensures c.requires

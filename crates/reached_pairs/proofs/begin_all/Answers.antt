@@ -2,7 +2,8 @@
 use native.Mathlib.Omega.{arith}
 use Rattle.std.proofs.Common.{ap}
 use Rattle.std.specs.Prelude.{ℕ, Option, unwrap_or}
-use Rattle.reached_pairs.proofs.BegunPairs.{few_c, states-start, states-next, states-done}
+use Rattle.step_searches.proofs.FoundOpenings.{sizes}
+use Rattle.reached_pairs.proofs.BegunPairs.{states-start, states-next, states-done}
 use Rattle.reached_pairs.proofs.begin_all.Goals as goal
 
 pub next_initial_state-next-requires : goal.next_initial_state-next-requires
@@ -15,7 +16,7 @@ pub begin_with-requires : goal.begin_with-requires
 begin_with-requires c = record { c_lt_nc = (rw c.in-Some.is at c.loop-next.invariant.2); open_pairs_asked = c.requires.open_pairs_asked; memo = c.loop-next.invariant.1 }
 
 pub overflow_add-c : goal.overflow_add-c
-overflow_add-c c = omega (arith, (rw c.in-Some.is at c.loop-next.invariant.2), (few_c c.requires.open_pairs_asked.opening.searches).1)
+overflow_add-c c = omega (arith, (rw c.in-Some.is at c.loop-next.invariant.2), (sizes c.requires.open_pairs_asked.opening.searches).0.1)
 
 pub next_initial_state-next-requires-in-Some : goal.next_initial_state-next-requires-in-Some
 next_initial_state-next-requires-in-Some c = record { from_le_nc = omega (arith, (rw c.in-Some.is at c.loop-next.invariant.2)); opening_asked = c.requires.open_pairs_asked.opening; memo = c.begin_with.ensures.remembers }

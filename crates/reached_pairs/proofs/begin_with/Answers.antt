@@ -3,7 +3,8 @@ use native.Mathlib.Omega.{arith}
 use Rattle.std.proofs.Common.{ap}
 use Rattle.std.specs.Prelude.{ℕ, Option, unwrap_or}
 use Rattle.reached_pairs.proofs.PairNumbers.{pair_inside}
-use Rattle.reached_pairs.proofs.BegunPairs.{few_a, open-start, open_next, open_done}
+use Rattle.step_searches.proofs.FoundOpenings.{sizes}
+use Rattle.reached_pairs.proofs.BegunPairs.{open-start, open_next, open_done}
 use Rattle.reached_pairs.proofs.begin_with.Goals as goal
 
 pub next_initial_match-next-requires : goal.next_initial_match-next-requires
@@ -22,7 +23,7 @@ pub put_mark-requires : goal.put_mark-requires
 put_mark-requires c = (omega (arith, (pair_inside c.in-Some.a c.args.c c.args.s.now.part.meeting.bindings c.args.s.now.part.concretes.bindings (rw c.in-Some.is at c.loop-next.invariant.2) c.requires.c_lt_nc), c.requires.open_pairs_asked.room), omega arith)
 
 pub overflow_add-a-in-Some : goal.overflow_add-a-in-Some
-overflow_add-a-in-Some c = omega (arith, (rw c.in-Some.is at c.loop-next.invariant.2), (few_a c.requires.open_pairs_asked.opening.searches).1)
+overflow_add-a-in-Some c = omega (arith, (rw c.in-Some.is at c.loop-next.invariant.2), (sizes c.requires.open_pairs_asked.opening.searches).1.1)
 
 pub next_initial_match-next-requires-in-Some : goal.next_initial_match-next-requires-in-Some
 next_initial_match-next-requires-in-Some c = record { c_lt_nc = (c.requires.c_lt_nc, omega (arith, (rw c.in-Some.is at c.loop-next.invariant.2))); opening_asked = c.requires.open_pairs_asked.opening; memo = c.loop-next.invariant.1 }

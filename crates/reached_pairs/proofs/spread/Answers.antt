@@ -13,13 +13,13 @@ prepare-ready-requires c = c.requires.prepare_asked
 
 pub invariant_of-s : goal.invariant_of-s
 invariant_of-s c = lent StepsAsked c.search.ensures.table c.search.ensures.plan c.search.ensures.cells c.search.ensures.part
-    (pairs-asked c.requires.prepare_asked c.requires.pairs_are c.prepare-ready.ensures).steps
+    (pairs-asked c.requires.prepare_asked c.requires.pairs_fit c.prepare-ready.ensures).steps
 
 pub spread_pairs-requires : goal.spread_pairs-requires
 spread_pairs-requires c = record {
   j_bound = (operation-few c.requires.prepare_asked, c.requires.n_nonzero.0, c.requires.n_nonzero.1);
   room = lent (λ t q x p. p.abstracts.bindings * p.concretes.bindings ≤ 262144) c.search.ensures.table c.search.ensures.plan c.search.ensures.cells c.search.ensures.part
-      (pairs-asked c.requires.prepare_asked c.requires.pairs_are c.prepare-ready.ensures).room;
+      (pairs-asked c.requires.prepare_asked c.requires.pairs_fit c.prepare-ready.ensures).room;
   memo = blank_memo 8098 refl;
 }
 

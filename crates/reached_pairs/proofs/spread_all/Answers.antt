@@ -2,7 +2,7 @@
 use mathlib.Core.Path.{refl}
 use native.Mathlib.Omega.{arith}
 use Rattle.reached_pairs.proofs.MarkNumbers.{layer-counted}
-use Rattle.reached_pairs.proofs.SpreadLayers.{layers-next, layers-given-up, layers-whole}
+use Rattle.reached_pairs.proofs.SpreadLayers.{pairs-fit, layers-next, layers-given-up, layers-whole}
 use Rattle.reached_pairs.proofs.spread_all.Goals as goal
 
 pub loop-n-init : goal.loop-n-init
@@ -18,7 +18,7 @@ pub returns-then-left-many : goal.returns-then-left-many
 returns-then-left-many c = layers-given-up c.loop-n.invariant.0 refl
 
 pub spread_layer-requires : goal.spread_layer-requires
-spread_layer-requires c = record { n_nonzero = (c.loop-n.invariant.1, c.loop-n-test.true); reach_asked = c.requires.reach_asked; pairs_are = c.requires.pairs_are }
+spread_layer-requires c = record { n_nonzero = (c.loop-n.invariant.1, c.loop-n-test.true); pairs_fit = pairs-fit c.requires.pairs_are }
 
 pub loop-n-preserved : goal.loop-n-preserved
 loop-n-preserved c = (layers-next c.loop-n.invariant.1 c.loop-n.invariant.0 c.spread_layer.ensures, omega arith, omega (arith, c.loop-n-test.true))

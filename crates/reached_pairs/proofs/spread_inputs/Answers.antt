@@ -1,6 +1,7 @@
 -- `spread_inputs` meets its contract: what the inputs before i lead to has its marks. Assumes nothing.
 use native.Mathlib.Omega.{arith}
-use Rattle.reached_pairs.proofs.SpreadSteps.{few-inputs, inputs-start, inputs-next, inputs-done}
+use Rattle.step_searches.proofs.FoundSteps.{sizes}
+use Rattle.reached_pairs.proofs.SpreadSteps.{inputs-start, inputs-next, inputs-done}
 use Rattle.step_searches.proofs.LentSearches.{asked}
 use Rattle.reached_pairs.proofs.spread_inputs.Goals as goal
 
@@ -8,7 +9,7 @@ pub loop-i-init : goal.loop-i-init
 loop-i-init c = (inputs-start _ (omega arith), c.requires.memo)
 
 pub mark_from-m-requires : goal.mark_from-m-requires
-mark_from-m-requires c = (omega (arith, c.requires.x_bound.0, c.requires.room), c.requires.x_bound.1, omega (arith, (rw c.s.view_is at c.loop-i-test.true), (few-inputs (asked c.s.view_is c.s.invariant).searches)), omega (arith, c.requires.x_bound.2))
+mark_from-m-requires c = (omega (arith, c.requires.x_bound.0, c.requires.room), c.requires.x_bound.1, omega (arith, (rw c.s.view_is at c.loop-i-test.true), (sizes (asked c.s.view_is c.s.invariant).searches).2.1), omega (arith, c.requires.x_bound.2))
 
 pub spread_steps-requires : goal.spread_steps-requires
 spread_steps-requires c = record { x_bound = (c.requires.x_bound.0, omega (arith, (rw c.s.view_is at c.loop-i-test.true)), omega (arith, c.mark_from-m.ensures.layer_is)); room = c.requires.room; memo = c.loop-i.invariant.1 }

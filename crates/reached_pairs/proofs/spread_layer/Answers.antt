@@ -7,10 +7,10 @@ pub loop-j-init : goal.loop-j-init
 loop-j-init c = (layer-start _, omega arith)
 
 pub spread-requires : goal.spread-requires
-spread-requires c = record { n_nonzero = (c.requires.n_nonzero.0, c.requires.n_nonzero.1); prepare_asked = layer_prepare c.requires.reach_asked c.loop-j-test.true; pairs_are = c.requires.pairs_are }
+spread-requires c = record { n_nonzero = (c.requires.n_nonzero.0, c.requires.n_nonzero.1); prepare_asked = layer_prepare c.d.invariant c.loop-j-test.true; pairs_fit = (rw (← c.d.view_is) at c.requires.pairs_fit) }
 
 pub loop-j-preserved : goal.loop-j-preserved
-loop-j-preserved c = (layer-next c.requires.n_nonzero.0 c.loop-j.invariant.0 c.spread.ensures, omega (arith, c.loop-j-test.true))
+loop-j-preserved c = (layer-next c.requires.n_nonzero.0 c.loop-j.invariant.0 (rw c.d.view_is at c.spread.ensures), omega (arith, (rw c.d.view_is at c.loop-j-test.true)))
 
 pub returns : goal.returns
-returns c = layer-done _ c.loop-j.invariant.0 c.loop-j.invariant.1 c.loop-j-test.false
+returns c = layer-done _ c.loop-j.invariant.0 c.loop-j.invariant.1 (rw c.d.view_is at c.loop-j-test.false)

@@ -4,7 +4,8 @@ use native.Mathlib.Omega.{arith}
 use Rattle.std.proofs.Common.{ap}
 use Rattle.std.specs.Prelude.{ℕ, Option, unwrap_or}
 use Rattle.reached_pairs.proofs.PairNumbers.{high_digit, low_digit}
-use Rattle.reached_pairs.proofs.SpreadSteps.{few-steps, steps-start, steps_next, steps-done}
+use Rattle.step_searches.proofs.FoundSteps.{fits}
+use Rattle.reached_pairs.proofs.SpreadSteps.{steps-start, steps_next, steps-done}
 use Rattle.step_searches.proofs.LentSearches.{asked}
 use Rattle.reached_pairs.proofs.spread_steps.Goals as goal
 
@@ -30,7 +31,7 @@ pub spread_matches-requires : goal.spread_matches-requires
 spread_matches-requires c = record { below = rw c.s.view_is (record { a_low = (high_digit c.args.x c.args.s.now.part.abstracts.bindings c.args.s.now.part.concretes.bindings c.requires.x_bound.0); i_low = c.requires.x_bound.1; o_low = high_digit _ _ _ (rw c.in-Some.is at c.loop-next.invariant.2); k_low = low_digit _ c.args.s.now.part.outputs.bindings _ (rw c.in-Some.is at c.loop-next.invariant.2) }, c.requires.x_bound.2); room = c.requires.room; memo = c.loop-next.invariant.1 }
 
 pub overflow_add-r : goal.overflow_add-r
-overflow_add-r c = omega (arith, (rw c.in-Some.is at c.loop-next.invariant.2), (few-steps (asked c.s.view_is c.s.invariant).searches))
+overflow_add-r c = omega (arith, (rw c.in-Some.is at c.loop-next.invariant.2), (fits (asked c.s.view_is c.s.invariant).searches).0)
 
 pub next_concrete_step-next-requires-in-Some : goal.next_concrete_step-next-requires-in-Some
 next_concrete_step-next-requires-in-Some c = record { c_lt_nc = rw c.s.view_is ((low_digit c.args.x c.args.s.now.part.abstracts.bindings c.args.s.now.part.concretes.bindings c.requires.x_bound.0), c.requires.x_bound.1, omega (arith, (rw c.in-Some.is at c.loop-next.invariant.2))); memo = c.spread_matches.ensures.remembers }

@@ -3,7 +3,8 @@ use borrow.Author.Rules.{rules}
 use mathlib.Core.Path.{◌∙◌}
 use native.Mathlib.Omega.{arith}
 use Rattle.lexical.specs.Lists.{bytes}
-use Rattle.reports.proofs.LineRooms.{at_room, place-room, newline-room, refusal-written, refusal-short, refusal_in}
+use Rattle.pieces.proofs.WrittenPieces.{both-added}
+use Rattle.reports.proofs.LineRooms.{at_room, place-room, newline-room, refusal-short, refusal-for}
 use Rattle.reports.proofs.put_refusal.Goals as goal
 
 pub put_all-requires-2 : goal.put_all-requires-2
@@ -20,4 +21,4 @@ put-requires c = newline-room c.from.result c.put_all.ensures.written c.put_deci
 
 pub returns : goal.returns
 unfolding bytes
-returns c = let w = refusal-written c.from.result c.put_all.ensures.written c.put_decimal.ensures.written (omega (arith, c.from.ensures, c.number.type_inv)) c.requires c.put_all-2.ensures.written c.args.f.place c.put_decimal-2.ensures.written (search rules) c.put.ensures.written in (refusal_in c.args.f.place (c.from.ensures ∙ c.number.ensures) w (search rules), omega (arith, w.end, refusal-short c.from.result c.args.f.place (omega (arith, c.from.ensures, c.number.type_inv)) (search rules)))
+returns c = let w = both-added (both-added (both-added (both-added c.put_all.ensures c.put_decimal.ensures) c.put_all-2.ensures) c.put_decimal-2.ensures) c.put.ensures in record { line = refusal-for c.args.f.place (c.from.ensures ∙ c.number.ensures) w; short = omega (arith, w.written.end, refusal-short c.from.result c.args.f.place (omega (arith, c.from.ensures, c.number.type_inv)) (search rules)) }

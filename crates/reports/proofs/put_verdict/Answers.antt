@@ -1,9 +1,7 @@
 -- `reports::put_verdict` meets its contract: the lines of a refuted check, or of an accepted one. Assumes nothing.
-use borrow.Author.Rules.{rules}
 use native.Mathlib.Omega.{arith}
 use Rattle.lexical.specs.Lists.{bytes}
-use Rattle.reports.proofs.VerdictLaws.{all_asked, all_small, search-asked, place_small, place-asked, witness-asked, told-listed, refuted-written, accepted-written, found-at}
-use Rattle.reports.proofs.LineRooms.{verdict_in}
+use Rattle.reports.proofs.VerdictLaws.{all_asked, all_small, search-asked, place_small, place-asked, witness-asked, told-listed, refuted-added, accepted-added, found-at}
 use Rattle.reports.proofs.put_verdict.Goals as goal
 
 pub total-all-requires : goal.total-all-requires
@@ -19,14 +17,14 @@ pub put_refuted-requires-clause-listed : goal.put_refuted-requires-clause-listed
 put_refuted-requires-clause-listed c = told-listed c.requires.asked c.total-all.ensures (found-at c.in-Some.is c.search-found.ensures) c.find-f.ensures c.obligation_of.ensures
 
 pub put_witness-requires : goal.put_witness-requires
-put_witness-requires c = record { at_in_bounds = omega (arith, c.put_refuted.ensures.written.short, c.put_refuted.ensures.written.long); witness_asked = witness-asked c.requires.asked c.total-all.ensures (found-at c.in-Some.is c.search-found.ensures) c.find-f.ensures }
+put_witness-requires c = record { at_in_bounds = omega (arith, c.requires.room, c.put_refuted.ensures.written.short, c.put_refuted.ensures.written.long); witness_asked = witness-asked c.requires.asked c.total-all.ensures (found-at c.in-Some.is c.search-found.ensures) c.find-f.ensures }
 
 pub overflow_add-place : goal.overflow_add-place
 overflow_add-place c = omega (arith, place_small c.requires.asked c.total-all.ensures (found-at c.in-Some.is c.search-found.ensures))
 
 pub returns : goal.returns
-returns c = verdict_in (refuted-written c.requires.asked c.total-all.ensures (found-at c.in-Some.is c.search-found.ensures) c.find-f.ensures c.obligation_of.ensures c.put_refuted.ensures.written c.put_witness.ensures.written (omega arith) c.put_count-2.ensures.written) (search rules)
+returns c = refuted-added c.requires.asked c.total-all.ensures (found-at c.in-Some.is c.search-found.ensures) c.find-f.ensures c.obligation_of.ensures c.put_refuted.ensures c.put_witness.ensures (omega arith) c.put_count-2.ensures
 
 pub returns-in_default : goal.returns-in_default
 unfolding bytes
-returns-in_default c = verdict_in (accepted-written c.requires.asked c.total-all.ensures (found-at c.in_default.is c.search-found.ensures) c.put_all.ensures.written c.put_count.ensures.written) (search rules)
+returns-in_default c = accepted-added c.requires.asked c.total-all.ensures (found-at c.in_default.is c.search-found.ensures) c.put_all.ensures c.put_count.ensures

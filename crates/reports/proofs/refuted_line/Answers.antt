@@ -3,14 +3,14 @@ use mathlib.Core.Path.{sym, ◌∙◌}
 use Rattle.reports.proofs.ReportAnswers.{refused-line, no_line, line-written}
 use Rattle.reports.proofs.refuted_line.Goals as goal
 
-pub returns-in-Err : goal.returns-in-Err
-returns-in-Err c = refused-line c.args.o _ c.read-answer.ensures c.in-Err.is
+pub returns-in_default : goal.returns-in_default
+returns-in_default c = refused-line c.args.o _ c.read-answer.ensures c.in_default.is
 
 pub returns-then-not-is_listed : goal.returns-then-not-is_listed
 returns-then-not-is_listed c = no_line c.args.o _ c.read-answer.ensures c.in-Ok.is (sym c.is_listed.ensures ∙ c.if-not-is_listed.true)
 
-pub put_first_line-requires-clause-listed : goal.put_first_line-requires-clause-listed
-put_first_line-requires-clause-listed c = sym c.is_listed.ensures ∙ c.if-not-is_listed.false
+pub put_refuted-requires-clause-listed : goal.put_refuted-requires-clause-listed
+put_refuted-requires-clause-listed c = sym c.is_listed.ensures ∙ c.if-not-is_listed.false
 
-pub returns-else-not-is_listed : goal.returns-else-not-is_listed
-returns-else-not-is_listed c = line-written c.args.o c.read-answer.ensures c.in-Ok.is c.put_first_line.ensures
+pub returns : goal.returns
+returns c = line-written c.args.o c.read-answer.ensures c.in-Ok.is c.put_refuted.ensures.written

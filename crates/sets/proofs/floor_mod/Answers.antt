@@ -2,20 +2,14 @@
 use mathlib.Core.Path.{ap₂, ◌∙◌}
 use mir.Facts.{to_z-of_z}
 use Rattle.sets.specs.Division.{floor_div}
-use Rattle.sets.proofs.Floor.{wide_fits, product-fits, rest-fits, rest_back}
+use Rattle.sets.proofs.Floor.{product-fits, rest-fits, rest_back}
 use Rattle.sets.proofs.floor_mod.Goals as goal
 
-pub overflow_cast-result : goal.overflow_cast-result
-overflow_cast-result c = wide_fits c.ranges.x
-
-pub overflow_cast-result-2 : goal.overflow_cast-result-2
-overflow_cast-result-2 c = wide_fits c.ranges.y
-
 pub overflow_mul-result : goal.overflow_mul-result
-overflow_mul-result c = product-fits c.args.x c.args.y c.ranges.x c.ranges.y c.floor_div.result (c.floor_div.ensures ∙ ap₂ floor_div (to_z-of_z c.ranges.x) (to_z-of_z c.ranges.y))
+overflow_mul-result c = product-fits c.ranges.x c.ranges.y c.from.ensures c.from-2.ensures c.floor_div.result (c.floor_div.ensures ∙ ap₂ floor_div (to_z-of_z c.ranges.x) (to_z-of_z c.ranges.y))
 
 pub overflow_sub-result : goal.overflow_sub-result
-overflow_sub-result c = rest-fits c.args.x c.args.y c.ranges.x c.ranges.y c.floor_div.result (c.floor_div.ensures ∙ ap₂ floor_div (to_z-of_z c.ranges.x) (to_z-of_z c.ranges.y))
+overflow_sub-result c = rest-fits c.ranges.x c.ranges.y c.from.ensures c.from-2.ensures c.floor_div.result (c.floor_div.ensures ∙ ap₂ floor_div (to_z-of_z c.ranges.x) (to_z-of_z c.ranges.y))
 
 pub returns : goal.returns
-returns c = rest_back c.args.x c.args.y c.ranges.x c.ranges.y c.floor_div.result (c.floor_div.ensures ∙ ap₂ floor_div (to_z-of_z c.ranges.x) (to_z-of_z c.ranges.y))
+returns c = rest_back c.ranges.x c.ranges.y c.from.ensures c.from-2.ensures c.floor_div.result (c.floor_div.ensures ∙ ap₂ floor_div (to_z-of_z c.ranges.x) (to_z-of_z c.ranges.y))

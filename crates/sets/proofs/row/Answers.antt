@@ -7,8 +7,8 @@ use native.Mathlib.Omega.{arith}
 use Rattle.sets.proofs.Operations.{one_shifted}
 use Rattle.sets.proofs.row.Goals as goal
 
-pub returns-then-from-ge-BITS_WIDE : goal.returns-then-from-ge-BITS_WIDE
-returns-then-from-ge-BITS_WIDE c = sym (ap (λ (x : ℕ). x % 2 ^ c.args.m) (div-eq_of_lt (lt_of_lt_of_le c.ranges.s.fits (pow_mono {i = 16} (omega arith)))) ∙ zero-mod (2 ^ c.args.m))
+pub returns-then-from-ge-PLACES : goal.returns-then-from-ge-PLACES
+returns-then-from-ge-PLACES c = sym (ap (λ (x : ℕ). x % 2 ^ c.args.m) (div-eq_of_lt (lt_of_lt_of_le c.ranges.s.fits (pow_mono {i = 16} (omega arith)))) ∙ zero-mod (2 ^ c.args.m))
 
 pub returns-then-m-ge-BITS : goal.returns-then-m-ge-BITS
 returns-then-m-ge-BITS c = sym (mod-eq_of_lt (lt_of_le_of_lt (shr_le c.args.s c.args.from) (lt_of_lt_of_le c.ranges.s.fits (pow_mono {i = 16} (omega arith)))))

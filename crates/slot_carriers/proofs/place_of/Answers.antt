@@ -19,7 +19,7 @@ pub distance-requires : goal.distance-requires
 distance-requires c = omega (arith, c.count_of-n.ensures, c.requires.count_low)
 
 pub returns-then-cells-slot-lt-PARTIAL : goal.returns-then-cells-slot-lt-PARTIAL
-returns-then-cells-slot-lt-PARTIAL c = sought-as c.distance.result (λ d h. ap (λ (z : ℤ). z +ℤ pos d) (to_z-of_z {w = w64} (record { sfits = c.lowest.type_inv })) ∙ c.lowest.ensures d) c.count_of-n.ensures (to_z-of_z c.ranges.x) c.distance.ensures
+returns-then-cells-slot-lt-PARTIAL c = sought-as c.distance.result (λ d h. ap (λ (z : ℤ). z +ℤ pos d) (to_z-of_z {w = w64} (record { sfits = c.lowest.type_inv })) ∙ c.lowest.ensures.rises d) c.count_of-n.ensures (to_z-of_z c.ranges.x) c.distance.ensures
 
 pub listed-requires : goal.listed-requires
 listed-requires c = λ i j h k. list_rising c.args.cells.now c.args.slot c.count_of-n.result c.requires c.count_of-n.ensures c.if-cells-slot-lt-PARTIAL.false c.if-n-eq0.false i j h (subst (λ (m : ℕ). j < m) (list-long c.args.cells.now c.args.slot c.count_of-n.result c.requires c.count_of-n.ensures c.if-cells-slot-lt-PARTIAL.false c.if-n-eq0.false c.told-cells) k)

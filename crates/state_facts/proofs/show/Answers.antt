@@ -1,9 +1,10 @@
 -- `show` meets its contract: the part that is set up has the groups of the operation, or those of both states alone. Assumes nothing.
-use Rattle.state_facts.proofs.ShownLaws.{part-asked, few-operations, shown-states-sized, shown-parameters-sized, shown}
+use Rattle.part_places.proofs.PlaceSteps.{operations-low}
+use Rattle.state_facts.proofs.ShownLaws.{part-asked, shown-states-sized, shown-parameters-sized, shown}
 use Rattle.state_facts.proofs.show.Goals as goal
 
 pub part_of-requires : goal.part_of-requires
-part_of-requires c = few-operations c.requires
+part_of-requires c = operations-low c.requires
 
 pub state_search-s-requires : goal.state_search-s-requires
 state_search-s-requires c = part-asked c.requires c.part_of.ensures

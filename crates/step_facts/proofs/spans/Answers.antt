@@ -4,13 +4,13 @@ use Rattle.step_facts.proofs.AskedFacts.{prepare-asked, operation-spans, open-as
 use Rattle.step_facts.proofs.spans.Goals as goal
 
 pub prepare-ready-requires : goal.prepare-ready-requires
-prepare-ready-requires c = prepare-asked c.requires c.if-j-d.true
+prepare-ready-requires c = prepare-asked c.d.invariant c.if-j-d.true
 
 pub returns-then-j-d : goal.returns-then-j-d
-returns-then-j-d c = operation-spans c.requires c.prepare-ready.ensures c.if-j-d.true
+returns-then-j-d c = rw (← c.d.view_is) (operation-spans c.d.invariant c.prepare-ready.ensures c.if-j-d.true)
 
 pub prepare_opening-ready-requires : goal.prepare_opening-ready-requires
-prepare_opening-ready-requires c = open-asked c.requires
+prepare_opening-ready-requires c = open-asked c.d.invariant
 
 pub returns : goal.returns
-returns c = opening-spans c.requires c.prepare_opening-ready.ensures (omega (arith, c.if-j-d.false))
+returns c = rw (← c.d.view_is) (opening-spans c.d.invariant c.prepare_opening-ready.ensures (omega (arith, c.if-j-d.false)))

@@ -14,8 +14,8 @@ type_count-requires c = let four : length c.args.d.now - 4 ≡ 4 = omega arith i
 
 pub returns-then-d-ending : goal.returns-then-d-ending
 returns-then-d-ending c =
-    let counted = subst (λ (l : List ℕ). TypeCounted l 0 c.args.limit.most c.args.g.now.names.now c.args.g.now.sizes.now c.type_count.result) (take_rest c.args.d.now 4) c.type_count.ensures.0 in
-    (factor-same c.args.d.now 0 c.args.ending c.args.limit.most c.args.g.now.names.now c.args.g.now.sizes.now _ c.if-d-ending.true counted, c.type_count.ensures.1)
+    let counted = subst (λ (l : List ℕ). TypeCounted l 0 c.args.limit.most c.args.g.now.names.now c.args.g.now.sizes.now c.type_count.result) (take_rest c.args.d.now 4) c.type_count.ensures in
+    factor-same c.args.d.now 0 c.args.ending c.args.limit.most c.args.g.now.names.now c.args.g.now.sizes.now _ c.if-d-ending.true counted
 
 pub returns : goal.returns
-returns c = (factor_other c.args.d.now 0 c.args.ending c.args.limit.most c.args.g.now.names.now c.args.g.now.sizes.now c.if-d-ending.false, omega arith)
+returns c = factor_other c.args.d.now 0 c.args.ending c.args.limit.most c.args.g.now.names.now c.args.g.now.sizes.now c.if-d-ending.false

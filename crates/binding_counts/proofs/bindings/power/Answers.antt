@@ -5,4 +5,4 @@ use Rattle.binding_counts.proofs.bindings.power.Goals as goal
 
 pub returns : goal.returns
 unfolding cap
-returns c = let p = c.saturating_pow.ensures in let s = c.args.limit.small in let m = c.min.ensures in (omega arith, omega arith)
+returns c = let p = c.saturating_pow.ensures in let s = c.args.limit.small in let m = c.min.ensures in omega arith

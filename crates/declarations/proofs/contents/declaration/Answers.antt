@@ -1,7 +1,6 @@
 -- `contents::declaration` meets its contract.
 use mathlib.Core.Path.{subst, refl, ap}
 use mathlib.Core.List.{[], ◌∷◌}
-use borrow.Author.Rules.{rules}
 use native.Mathlib.Omega.{arith}
 use Rattle.form.specs.Machine.{exact, a_type}
 use Rattle.form.specs.Computed.{compute_form}
@@ -14,30 +13,13 @@ use Rattle.lexical.specs.Kinds as kind
 use Rattle.form_nodes.specs.Derivations as part
 use Rattle.declarations.proofs.contents.declaration.Goals as goal
 
-pub put-m-requires : goal.put-m-requires
-put-m-requires c = let room = c.requires.0 in let inside = c.requires.2 in search rules
-
-pub overflow_add-at : goal.overflow_add-at
-overflow_add-at c = let room = c.requires.0 in let inside = c.requires.2 in search rules
-
-pub close-requires : goal.close-requires
-close-requires c = let room = c.requires.0 in let inside = c.requires.2 in search rules
-
-pub type_form-requires : goal.type_form-requires
-unfolding compute_form
-type_form-requires c = let room = c.requires.0 in let inside = c.requires.2 in let h = (known c.in_ok-colon.was (c.close.ensures.reads kind.colon refl)) in let z = closed c.in_ok-colon.was c.close.ensures in let z₀ = z.0.0 in let z₁ = z.1 in let w = c.put-m.ensures.count in search rules
-
-pub close-requires-2 : goal.close-requires-2
-unfolding compute_form
-close-requires-2 c = let t = (known c.in_ok-typed.was c.type_form.ensures.0) in search rules
-
 pub returns : goal.returns
 unfolding compute_form
-returns c = let room = c.requires.0 in let inside = c.requires.2 in let h = (known c.in_ok-colon.was (c.close.ensures.reads kind.colon refl)) in let z = closed c.in_ok-colon.was c.close.ensures in let z₀ = z.0.0 in let z₁ = z.1 in let w = c.put-m.ensures.count in (wider (next (framed (a_type ∷ exact kind.semicolon ∷ []) h) (next (framed (exact kind.semicolon ∷ []) (known c.in_ok-typed.was c.type_form.ensures.0)) (c.close-2.ensures.reads kind.semicolon refl))) (omega arith), declaration-made c.close-2.result c.requires.1 z.0.0 z.0.1 (renumber z.1 c.put-m.ensures) (ap (λ y. node 6 c.args.at y 0) c.name_number-x.ensures) (subst (λ (z : Answer). Made c.args.y.now.kinds.now c.args.y.now.values.now part.a_type c.in_ok-colon.colon.at c.in_ok-colon.colon.count c.put-m.new.code c.type_form.new.code z) c.in_ok-typed.was c.type_form.ensures.1) c.close-2.ensures)
+returns c = let h = (known c.in_ok-colon.was (c.close.ensures.reads kind.colon refl)) in let z = closed c.in_ok-colon.was c.close.ensures in (wider (next (framed (a_type ∷ exact kind.semicolon ∷ []) h) (next (framed (exact kind.semicolon ∷ []) (known c.in_ok-typed.was c.type_form.ensures.0)) (c.close-2.ensures.reads kind.semicolon refl))) (omega arith), declaration-made c.close-2.result c.requires.1 z.0.0 z.0.1 (renumber z.1 c.put-m.ensures) (ap (λ y. node 6 c.args.from.at y 0) c.name_number-x.ensures) (subst (λ (z : Answer). Made c.args.y.now.kinds.now c.args.y.now.values.now part.a_type c.in_ok-colon.colon.at c.in_ok-colon.colon.count c.put-m.new.code c.type_form.new.code z) c.in_ok-typed.was c.type_form.ensures.1) c.close-2.ensures)
 
 pub returns-in_err-typed : goal.returns-in_err-typed
 unfolding compute_form
-returns-in_err-typed c = rw (exits c.from_residual-in_err-typed.result c.from_residual-in_err-typed.ensures.1) (let room = c.requires.0 in let inside = c.requires.2 in let h = (known c.in_ok-colon.was (c.close.ensures.reads kind.colon refl)) in let z = closed c.in_ok-colon.was c.close.ensures in let z₀ = z.0.0 in let z₁ = z.1 in let w = c.put-m.ensures.count in (wider (next (framed (a_type ∷ exact kind.semicolon ∷ []) h) (fails (framed (exact kind.semicolon ∷ []) (known c.in_err-typed.was c.type_form.ensures.0)))) (omega arith), tt))
+returns-in_err-typed c = rw (exits c.from_residual-in_err-typed.result c.from_residual-in_err-typed.ensures.1) (let h = (known c.in_ok-colon.was (c.close.ensures.reads kind.colon refl)) in let z = closed c.in_ok-colon.was c.close.ensures in (wider (next (framed (a_type ∷ exact kind.semicolon ∷ []) h) (fails (framed (exact kind.semicolon ∷ []) (known c.in_err-typed.was c.type_form.ensures.0)))) (omega arith), tt))
 
 pub returns-in_err-colon : goal.returns-in_err-colon
 unfolding compute_form

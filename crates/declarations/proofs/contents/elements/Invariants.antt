@@ -10,8 +10,8 @@ use Rattle.form_nodes.specs.Derivations.{MoreAt}
 use Rattle.form_nodes.specs.Derivations as part
 use Rattle.declarations.proofs.contents.elements.Given as goal
 
-abbrev pub invariant-loop-start : goal.invariant-loop-start
-invariant-loop-start l = Reads l.y.kinds.now l.start l.from (a_declared (an_element 1) ∷ some_elements 1 ∷ []) (some_elements l.k ∷ []) (read l.at l.n) × MoreAt l.y.kinds.now l.y.values.now part.some_elements l.start l.from l.initial.code l.code l.at l.n × (length l.code ≡ length l.initial.code) × (l.k ≤ 8)
+abbrev pub invariant-loop-read : goal.invariant-loop-read
+invariant-loop-read l = Reads l.y.kinds.now l.fn.from.at l.fn.from.count (a_declared (an_element 1) ∷ some_elements 1 ∷ []) (some_elements l.k ∷ []) (read l.read.at l.read.count) × MoreAt l.y.kinds.now l.y.values.now part.some_elements l.fn.from.at l.fn.from.count l.initial.code l.code l.read.at l.read.count × (length l.code ≡ length l.initial.code) × (l.k ≤ 8)
 
-abbrev pub decreases-loop-start : goal.decreases-loop-start
-decreases-loop-start l = length l.y.kinds.now - l.at
+abbrev pub decreases-loop-read : goal.decreases-loop-read
+decreases-loop-read l = length l.y.kinds.now - l.read.at

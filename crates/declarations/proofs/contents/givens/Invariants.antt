@@ -9,7 +9,7 @@ use Rattle.form_nodes.specs.Derivations.{some_givens, MoreAt}
 use Rattle.declarations.proofs.contents.givens.Given as goal
 
 abbrev pub invariant-loop-read : goal.invariant-loop-read
-invariant-loop-read l = Reads l.y.kinds.now l.start l.from (some_bodies 0 ∷ []) (some_bodies l.k ∷ []) (read l.read.at l.read.count) × MoreAt l.y.kinds.now l.y.values.now some_givens l.start l.from l.initial.code l.code l.read.at l.read.count × (length l.code ≡ length l.initial.code) × (l.k ≤ 8)
+invariant-loop-read l = Reads l.y.kinds.now l.fn.from.at l.fn.from.count (some_bodies 0 ∷ []) (some_bodies l.k ∷ []) (read l.read.at l.read.count) × MoreAt l.y.kinds.now l.y.values.now some_givens l.fn.from.at l.fn.from.count l.initial.code l.code l.read.at l.read.count × (length l.code ≡ length l.initial.code) × (l.k ≤ 8)
 
 abbrev pub decreases-loop-read : goal.decreases-loop-read
 decreases-loop-read l = length l.y.kinds.now - l.read.at

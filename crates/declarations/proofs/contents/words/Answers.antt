@@ -1,7 +1,6 @@
 -- `contents::words` meets its contract.
 use mathlib.Core.Path.{refl}
 use mathlib.Core.List.{[], ◌∷◌}
-use borrow.Author.Rules.{rules}
 use Rattle.form.specs.Machine.{exact}
 use Rattle.form.specs.Computed.{compute_form}
 use Rattle.form_nodes.proofs.ReadParts.{exits, next, fails, framed, known}
@@ -9,29 +8,9 @@ use Rattle.declarations.proofs.ListNodes.{closed, words-shown}
 use Rattle.lexical.specs.Kinds as kind
 use Rattle.declarations.proofs.contents.words.Goals as goal
 
-pub close-requires : goal.close-requires
-unfolding compute_form
-close-requires c = search rules
-
-pub close-requires-2 : goal.close-requires-2
-unfolding compute_form
-close-requires-2 c = let h = (known c.in_ok-abstracts.was (c.close.ensures.reads kind.ABSTRACT refl)) in search rules
-
-pub close-requires-3 : goal.close-requires-3
-unfolding compute_form
-close-requires-3 c = let h = (known c.in_ok-concretes.was (c.close-2.ensures.reads kind.CONCRETE refl)) in search rules
-
-pub close-requires-4 : goal.close-requires-4
-unfolding compute_form
-close-requires-4 c = let h = (known c.in_ok-ainit.was (c.close-3.ensures.reads kind.AINIT refl)) in search rules
-
-pub close-requires-5 : goal.close-requires-5
-unfolding compute_form
-close-requires-5 c = let h = (known c.in_ok-cinit.was (c.close-4.ensures.reads kind.CINIT refl)) in search rules
-
 pub returns : goal.returns
 unfolding compute_form
-returns c = (next (framed (exact kind.CONCRETE ∷ exact kind.AINIT ∷ exact kind.CINIT ∷ exact kind.RETRIEVE ∷ []) (known c.in_ok-abstracts.was (c.close.ensures.reads kind.ABSTRACT refl))) (next (framed (exact kind.AINIT ∷ exact kind.CINIT ∷ exact kind.RETRIEVE ∷ []) (known c.in_ok-concretes.was (c.close-2.ensures.reads kind.CONCRETE refl))) (next (framed (exact kind.CINIT ∷ exact kind.RETRIEVE ∷ []) (known c.in_ok-ainit.was (c.close-3.ensures.reads kind.AINIT refl))) (next (framed (exact kind.RETRIEVE ∷ []) (known c.in_ok-cinit.was (c.close-4.ensures.reads kind.CINIT refl))) (c.close-5.ensures.reads kind.RETRIEVE refl)))), words-shown c.args.at c.close-5.result (closed c.in_ok-abstracts.was c.close.ensures) (closed c.in_ok-concretes.was c.close-2.ensures) (closed c.in_ok-ainit.was c.close-3.ensures) (closed c.in_ok-cinit.was c.close-4.ensures) c.close-5.ensures)
+returns c = (next (framed (exact kind.CONCRETE ∷ exact kind.AINIT ∷ exact kind.CINIT ∷ exact kind.RETRIEVE ∷ []) (known c.in_ok-abstracts.was (c.close.ensures.reads kind.ABSTRACT refl))) (next (framed (exact kind.AINIT ∷ exact kind.CINIT ∷ exact kind.RETRIEVE ∷ []) (known c.in_ok-concretes.was (c.close-2.ensures.reads kind.CONCRETE refl))) (next (framed (exact kind.CINIT ∷ exact kind.RETRIEVE ∷ []) (known c.in_ok-ainit.was (c.close-3.ensures.reads kind.AINIT refl))) (next (framed (exact kind.RETRIEVE ∷ []) (known c.in_ok-cinit.was (c.close-4.ensures.reads kind.CINIT refl))) (c.close-5.ensures.reads kind.RETRIEVE refl)))), words-shown c.args.from.at c.close-5.result (closed c.in_ok-abstracts.was c.close.ensures) (closed c.in_ok-concretes.was c.close-2.ensures) (closed c.in_ok-ainit.was c.close-3.ensures) (closed c.in_ok-cinit.was c.close-4.ensures) c.close-5.ensures)
 
 pub returns-in_err-cinit : goal.returns-in_err-cinit
 unfolding compute_form

@@ -5,6 +5,7 @@ use mathlib.Core.Path.{sym, ◌∙◌}
 use lib.ListN.{get_or}
 use Rattle.refusals.specs.Refusals.{number_of}
 use Rattle.type_rules.specs.TypesByNumber.{entry}
+use Rattle.declared_names.specs.PassPromises.{pairs_key_at}
 use Rattle.declared_names.proofs.DeclarationNodes.{faulted, key_one, key-two, key-three, key-else}
 use Rattle.declared_names.proofs.declared.type_fault.Goals as goal
 
@@ -21,4 +22,5 @@ unfolding number_of
 returns-in-3 c = faulted c.args.code.now c.args.at c.args.names.now c.args.sizes.now _ (c.unless-in-3.ensures ∙ (rw (c.from-i.ensures, c.is_given-in-3.ensures, c.entry-g.ensures, c.from.ensures) (key-three (get_or c.args.code.now (c.args.at + 3) 0) (get_or c.args.code.now (c.args.at + 2) 0) (get_or c.args.code.now (c.args.at + 1) 0) (get_or c.args.code.now c.args.at 0) (entry c.args.names.now (get_or c.args.code.now (c.args.at + 1) 0)) (entry c.args.names.now (get_or c.args.code.now c.args.at 0)) c.args.sizes.now c.in-3.is)))
 
 pub returns-in_default : goal.returns-in_default
+unfolding pairs_key_at
 returns-in_default c = faulted c.args.code.now c.args.at c.args.names.now c.args.sizes.now _ (c.pairs_fault.ensures ∙ (rw (c.from-i.ensures, c.entry-g.ensures, c.from.ensures, c.entry.ensures, c.from-in_default.ensures) (sym (key-else (get_or c.args.code.now (c.args.at + 3) 0) (get_or c.args.code.now (c.args.at + 2) 0) (get_or c.args.code.now (c.args.at + 1) 0) (get_or c.args.code.now c.args.at 0) (entry c.args.names.now (get_or c.args.code.now (c.args.at + 1) 0)) (entry c.args.names.now (get_or c.args.code.now c.args.at 0)) c.args.sizes.now (λ s. omega arith) (λ s. omega arith) (λ s. omega arith)))))

@@ -1,5 +1,5 @@
 -- `keys::key_at` meets its contract: the key so far, with that of what is left, is the key. Assumes nothing.
-use Prim.Native.Nat.{ℕ, ◌+◌, ◌*◌, ◌/◌, ◌%◌}
+use Prim.Native.Nat.{◌+◌, ◌/◌, ◌%◌}
 use mathlib.Core.Path.{◌≡◌, sym, subst}
 use native.Mathlib.Omega.{arith}
 use Rattle.idle_variables.specs.KeyPromises.{key_in}

@@ -1,4 +1,4 @@
--- `symbols::classes::class_of` meets its contract: range by range. Assumes nothing.
+-- `lexical::classes::class_of` meets its contract: range by range. Assumes nothing.
 use mathlib.Core.Logic.{inl, inr, ⊎_elim}
 use mathlib.Core.Path.{◌≡◌, refl}
 use native.Mathlib.Omega.{arith}

@@ -1,4 +1,4 @@
--- `symbols::marks::mark_at` meets its contract: no mark is longer than three bytes. Assumes nothing.
+-- `lexical::marks::mark_at` meets its contract: no mark is longer than three bytes. Assumes nothing.
 use mathlib.Core.Path.{refl, ap, ◌∙◌}
 use Rattle.lexical.specs.SymbolPromises.{token_of}
 use Rattle.lexical.proofs.MarkLaws.{bytes-at}

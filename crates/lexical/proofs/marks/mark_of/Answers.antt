@@ -1,4 +1,6 @@
 -- `lexical::marks::mark_of` meets its contract, arm by arm. Assumes nothing.
+-- Form 8: the answer of an arm of one byte is one use of `at-first`, and computes at its byte; one law over the byte would have a list of these bytes with their codes, and each answer would
+-- pick its entry there.
 use mathlib.Core.Path.{refl, ap}
 use Rattle.lexical.specs.Kinds.{code_of}
 use Rattle.lexical.specs.Lists.{bytes, begins}

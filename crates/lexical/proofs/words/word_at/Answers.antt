@@ -1,4 +1,4 @@
--- `symbols::words::word_at` meets its contract. Assumes nothing.
+-- `lexical::words::word_at` meets its contract. Assumes nothing.
 use lib.ListN.{drop, length-drop}
 use native.Mathlib.Omega.{arith}
 use Rattle.lexical.proofs.WordLaws.{word-here, run_length}

@@ -1,4 +1,4 @@
--- `symbols::words::word_code` meets its contract, word by word. Assumes nothing.
+-- `lexical::words::word_code` meets its contract, word by word. Assumes nothing.
 use Prim.Native.Nat.{ℕ}
 use mathlib.Core.Path.{sym, ap}
 use Rattle.lexical.specs.Kinds.{code_of, words}

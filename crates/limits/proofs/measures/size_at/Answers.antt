@@ -2,12 +2,13 @@
 use mathlib.Core.Bool.{not}
 use mathlib.Core.Path.{ap}
 use lib.Dec.{eqb}
+use native.Mathlib.Omega.{arith}
 use borrow.Author.Tests.{ne_eqb}
 use Rattle.limits.proofs.SizeMarks.{size-other, size-range}
 use Rattle.limits.proofs.measures.size_at.Goals as goal
 
-pub returns-then-code-at-ne-RANGE : goal.returns-then-code-at-ne-RANGE
-returns-then-code-at-ne-RANGE g c = size-other (not (eqb g.row.ON 0)) c.args.code.now c.args.at c.if-code-at-ne-RANGE.true
+pub returns-in-2 : goal.returns-in-2
+returns-in-2 g c = size-range (not (eqb g.row.ON 0)) c.args.code.now c.args.at c.absolute_of.result c.absolute_of-in-2.result c.max.result (ap not (ne_eqb g.row.ON 0 c.if-this-ne0.true)) c.in-2.is c.absolute_of.ensures c.absolute_of-in-2.ensures c.max.ensures
 
-pub returns : goal.returns
-returns g c = size-range (not (eqb g.row.ON 0)) c.args.code.now c.args.at c.absolute_of.result c.absolute_of-2.result c.max.result (ap not (ne_eqb g.row.ON 0 c.if-not-this.false)) c.if-code-at-ne-RANGE.false c.absolute_of.ensures.0 c.absolute_of-2.ensures.0 c.max.ensures
+pub returns-in_default-2 : goal.returns-in_default-2
+returns-in_default-2 g c = size-other (not (eqb g.row.ON 0)) c.args.code.now c.args.at (λ e. omega arith)

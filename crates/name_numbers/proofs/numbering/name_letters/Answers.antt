@@ -1,4 +1,4 @@
--- `symbols::names::name_letters` meets its contract. Assumes nothing.
+-- `name_numbers::numbering::name_letters` meets its contract. Assumes nothing.
 use lib.ListN.{drop, length-drop, length}
 use mathlib.Core.Bool.{cond, Bool}
 use mathlib.Core.Path.{sym, ap, ◌∙◌}

@@ -1,4 +1,4 @@
--- `symbols::names::number_names` meets its contract: the tree of the names passed, and their values. Assumes nothing.
+-- `name_numbers::numbering::number_names` meets its contract: the tree of the names passed, and their values. Assumes nothing.
 use mathlib.Core.List.{List}
 use borrow.Author.Rules.{rules}
 use lib.ListN.{set, length, get_or}

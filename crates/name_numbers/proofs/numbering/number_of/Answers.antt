@@ -1,4 +1,4 @@
--- `symbols::names::number_of` meets its contract, by where the walk ends. Assumes nothing.
+-- `name_numbers::numbering::number_of` meets its contract, by where the walk ends. Assumes nothing.
 use lib.ListN.{length, get_or}
 use borrow.Author.Rules.{rules}
 use mathlib.Core.Path.{◌≡◌, refl, sym, ◌∙◌}

@@ -1,4 +1,4 @@
--- `symbols::names::numbered` meets its contract. Assumes nothing.
+-- `name_numbers::numbering::numbered` meets its contract. Assumes nothing.
 use lib.ListN.{length}
 use borrow.Author.Rules.{rules}
 use mathlib.Core.Path.{◌≡◌, refl}

@@ -18,7 +18,7 @@ pub returns-then-not-is_marked : goal.returns-then-not-is_marked
 returns-then-not-is_marked c = record { answers = abstract-found c.requires.nest_asked c.loop-from.invariant.0 c.next_abstract-d.ensures.answers; remembers = c.next_abstract-d.ensures.remembers }
 
 pub overflow_add-from : goal.overflow_add-from
-overflow_add-from c = omega (arith, (says-in c.whole_group-group.ensures c.is_marked.ensures).low c.if-not-is_marked.false, c.requires.nest_asked.nest.sized.few_a.1)
+overflow_add-from c = omega (arith, (says-in c.whole_group-group.ensures c.is_marked.ensures).low c.if-not-is_marked.false, c.requires.nest_asked.nest.sized.abstracts.few)
 
 pub loop-from-smaller : goal.loop-from-smaller
 loop-from-smaller c = omega (arith, c.loop-from-test.true, abstract-forward c.requires.nest_asked c.loop-from.invariant.0 c.next_abstract-d.ensures.answers)

@@ -18,7 +18,7 @@ pub returns-then-not-is_marked : goal.returns-then-not-is_marked
 returns-then-not-is_marked c = record { answers = concrete-found c.requires.nest_asked c.loop-from.invariant.0 c.next_concrete-d.ensures.answers; remembers = c.next_concrete-d.ensures.remembers }
 
 pub overflow_add-from : goal.overflow_add-from
-overflow_add-from c = omega (arith, (says-in c.concrete_group-group.ensures c.is_marked.ensures).low c.if-not-is_marked.false, c.requires.nest_asked.nest.sized.few_c.1)
+overflow_add-from c = omega (arith, (says-in c.concrete_group-group.ensures c.is_marked.ensures).low c.if-not-is_marked.false, c.requires.nest_asked.nest.sized.concretes.few)
 
 pub loop-from-smaller : goal.loop-from-smaller
 loop-from-smaller c = omega (arith, c.loop-from-test.true, concrete-forward c.requires.nest_asked c.loop-from.invariant.0 c.next_concrete-d.ensures.answers)

@@ -2,4 +2,4 @@
 use Rattle.node_spans.proofs.Parts.span.Goals as goal
 
 pub returns : goal.returns
-returns c = c.span_at.ensures.0
+returns c = c.span_at.ensures

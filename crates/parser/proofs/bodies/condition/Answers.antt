@@ -12,21 +12,12 @@ use Rattle.parser.proofs.BodyNodes.{long-written, then-closes, condition-made}
 use Rattle.form_nodes.specs.Derivations as part
 use Rattle.parser.proofs.bodies.condition.Goals as goal
 
-pub overflow_sub-body : goal.overflow_sub-body
-overflow_sub-body c = let room = c.requires in let h = (known c.in_ok-body.was c.pred.ensures.0) in let l = c.pred.auto.code in let d : MadeAt c.args.y.now.kinds.now c.args.y.now.values.now (part.a_pred_from 1) c.args.at (c.args.n + 4) c.args.code.now c.pred.new.code c.in_ok-body.body.at c.in_ok-body.body.count = (made c.in_ok-body.was c.pred.ensures.1) in let u = long-written (c.args.n + 4) c.in_ok-body.body.count c.args.code.now c.pred.new.code d.nodes d.written (omega arith) (omega arith) in search rules
-
-pub overflow_cast-body : goal.overflow_cast-body
-overflow_cast-body c = let room = c.requires in let h = (known c.in_ok-body.was c.pred.ensures.0) in let l = c.pred.auto.code in let d : MadeAt c.args.y.now.kinds.now c.args.y.now.values.now (part.a_pred_from 1) c.args.at (c.args.n + 4) c.args.code.now c.pred.new.code c.in_ok-body.body.at c.in_ok-body.body.count = (made c.in_ok-body.was c.pred.ensures.1) in let u = long-written (c.args.n + 4) c.in_ok-body.body.count c.args.code.now c.pred.new.code d.nodes d.written (omega arith) (omega arith) in search rules
-
-pub put-c-requires : goal.put-c-requires
-put-c-requires c = let room = c.requires in let h = (known c.in_ok-body.was c.pred.ensures.0) in let l = c.pred.auto.code in let d : MadeAt c.args.y.now.kinds.now c.args.y.now.values.now (part.a_pred_from 1) c.args.at (c.args.n + 4) c.args.code.now c.pred.new.code c.in_ok-body.body.at c.in_ok-body.body.count = (made c.in_ok-body.was c.pred.ensures.1) in let u = long-written (c.args.n + 4) c.in_ok-body.body.count c.args.code.now c.pred.new.code d.nodes d.written (omega arith) (omega arith) in search rules
-
-pub close-requires : goal.close-requires
-close-requires c = let room = c.requires in let h = (known c.in_ok-body.was c.pred.ensures.0) in search rules
+pub overflow_sub-written : goal.overflow_sub-written
+overflow_sub-written c = let h = (known c.in_ok-body.was c.pred.ensures.0) in let d : MadeAt c.args.y.now.kinds.now c.args.y.now.values.now (part.a_pred_from 1) c.args.from.at (c.args.from.count + 4) c.args.code.now c.pred.new.code c.in_ok-body.body.at c.in_ok-body.body.count = (made c.in_ok-body.was c.pred.ensures.1) in let u = long-written (c.args.from.count + 4) c.in_ok-body.body.count c.args.code.now c.pred.new.code d.nodes d.written (omega arith) (omega arith) in search rules
 
 pub returns : goal.returns
 unfolding code_of
-returns c = let room = c.requires in let h = (known c.in_ok-body.was c.pred.ensures.0) in let l = c.pred.auto.code in let d : MadeAt c.args.y.now.kinds.now c.args.y.now.values.now (part.a_pred_from 1) c.args.at (c.args.n + 4) c.args.code.now c.pred.new.code c.in_ok-body.body.at c.in_ok-body.body.count = (made c.in_ok-body.was c.pred.ensures.1) in let u = long-written (c.args.n + 4) c.in_ok-body.body.count c.args.code.now c.pred.new.code d.nodes d.written (omega arith) (omega arith) in (λ κ q. then-closes κ c.close.result q (framed (exact κ ∷ []) h) c.close.ensures, condition-made c.close.result d c.put-c.ensures (omega arith) (omega arith) (omega arith) c.close.ensures)
+returns c = let h = (known c.in_ok-body.was c.pred.ensures.0) in let d : MadeAt c.args.y.now.kinds.now c.args.y.now.values.now (part.a_pred_from 1) c.args.from.at (c.args.from.count + 4) c.args.code.now c.pred.new.code c.in_ok-body.body.at c.in_ok-body.body.count = (made c.in_ok-body.was c.pred.ensures.1) in let u = long-written (c.args.from.count + 4) c.in_ok-body.body.count c.args.code.now c.pred.new.code d.nodes d.written (omega arith) (omega arith) in (λ κ q. then-closes κ c.close.result q (framed (exact κ ∷ []) h) c.close.ensures, condition-made c.close.result d c.put.ensures (omega arith) (omega arith) (omega arith) c.close.ensures)
 
 pub returns-in_err-body : goal.returns-in_err-body
 unfolding code_of

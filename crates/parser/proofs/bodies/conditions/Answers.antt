@@ -13,11 +13,11 @@ use Rattle.parser.proofs.bodies.conditions.Goals as goal
 
 pub where_of-requires-2 : goal.where_of-requires-2
 unfolding code_of
-where_of-requires-2 c = let room = c.requires in let h = (known c.in_ok-ainit.was (c.where_of.ensures.0 kind.AINIT refl)) in search rules
+where_of-requires-2 c = let h = (known c.in_ok-ainit.was (c.where_of.ensures.0 kind.AINIT refl)) in search rules
 
 pub where_of-requires-3 : goal.where_of-requires-3
 unfolding code_of
-where_of-requires-3 c = let room = c.requires in let h = (known c.in_ok-ainit.was (c.where_of.ensures.0 kind.AINIT refl)) in let i = (known c.in_ok-cinit.was (c.where_of-2.ensures.0 kind.CINIT refl)) in search rules
+where_of-requires-3 c = let h = (known c.in_ok-ainit.was (c.where_of.ensures.0 kind.AINIT refl)) in let i = (known c.in_ok-cinit.was (c.where_of-2.ensures.0 kind.CINIT refl)) in search rules
 
 pub returns : goal.returns
 unfolding code_of

@@ -13,44 +13,21 @@ use Rattle.parser.proofs.BodyNodes.{operation-made}
 use Rattle.lexical.specs.Kinds as kind
 use Rattle.parser.proofs.bodies.operation.Goals as goal
 
-pub overflow_add-at : goal.overflow_add-at
-overflow_add-at c = let room = c.requires.0 in let l = c.requires.1 in search rules
-
-pub put-m-requires : goal.put-m-requires
-put-m-requires c = let room = c.requires.0 in let l = c.requires.1 in search rules
-
-pub overflow_add-at-2 : goal.overflow_add-at-2
-overflow_add-at-2 c = let room = c.requires.0 in let l = c.requires.1 in search rules
-
-pub overflow_add-at-3 : goal.overflow_add-at-3
-overflow_add-at-3 c = let room = c.requires.0 in let l = c.requires.1 in search rules
-
-pub parameters-requires : goal.parameters-requires
-parameters-requires c = let room = c.requires.0 in let l = c.requires.1 in let w = c.put-m.ensures.count in search rules
-
-pub close-requires : goal.close-requires
-unfolding code_of
-close-requires c = let room = c.requires.0 in let l = c.requires.1 in let w = c.put-m.ensures.count in let h = (known c.in_ok-taken.was c.parameters.ensures.0) in search rules
-
-pub condition-requires : goal.condition-requires
-unfolding code_of
-condition-requires c = let room = c.requires.0 in let l = c.requires.1 in let w = c.put-m.ensures.count in let h = (known c.in_ok-taken.was c.parameters.ensures.0) in let o = (closed c.in_ok-word.was c.close.ensures).0.0 in let y = (closed c.in_ok-word.was c.close.ensures).1 in let i = (known c.in_ok-word.was (c.close.ensures.reads kind.ABSTRACT refl)) in search rules
-
 pub condition-requires-2 : goal.condition-requires-2
 unfolding code_of
-condition-requires-2 c = let room = c.requires.0 in let l = c.requires.1 in let w = c.put-m.ensures.count in let h = (known c.in_ok-taken.was c.parameters.ensures.0) in let o = (closed c.in_ok-word.was c.close.ensures).0.0 in let y = (closed c.in_ok-word.was c.close.ensures).1 in let i = (known c.in_ok-word.was (c.close.ensures.reads kind.ABSTRACT refl)) in let j = (known c.in_ok-abstractly.was (c.condition.ensures.0 kind.CONCRETE refl)) in search rules
+condition-requires-2 c = let o = (closed c.in_ok-word.was c.close.ensures).0.0 in let y = (closed c.in_ok-word.was c.close.ensures).1 in let i = (known c.in_ok-word.was (c.close.ensures.reads kind.ABSTRACT refl)) in let j = (known c.in_ok-abstractly.was (c.condition.ensures.0 kind.CONCRETE refl)) in search rules
 
 pub returns : goal.returns
 unfolding code_of
-returns c = let room = c.requires.0 in let l = c.requires.1 in let w = c.put-m.ensures.count in let h = (known c.in_ok-taken.was c.parameters.ensures.0) in let o = (closed c.in_ok-word.was c.close.ensures).0.0 in let y = (closed c.in_ok-word.was c.close.ensures).1 in let i = (known c.in_ok-word.was (c.close.ensures.reads kind.ABSTRACT refl)) in let j = (known c.in_ok-abstractly.was (c.condition.ensures.0 kind.CONCRETE refl)) in (next (counted {c = c.args.n + 4} {d = c.in_ok-taken.taken.count} (omega arith) (framed (a_condition_to kind.CONCRETE ++ a_condition_to kind.END) h)) (next (counted {c = c.in_ok-taken.taken.count} {d = c.in_ok-taken.taken.count} (omega arith) (framed (a_condition_to kind.CONCRETE ++ a_condition_to kind.END) i)) (next (framed (a_condition_to kind.END) j) (c.condition-2.ensures.0 kind.END refl))), operation-made c.condition-2.new.code c.condition-2.result c.requires.2 c.requires.3 c.name_number-x.ensures c.put-m.ensures (made c.in_ok-taken.was c.parameters.ensures.1) (closed c.in_ok-word.was c.close.ensures) (made c.in_ok-abstractly.was c.condition.ensures.1) c.condition-2.ensures.1)
+returns c = let h = (known c.in_ok-taken.was c.parameters.ensures.0) in let i = (known c.in_ok-word.was (c.close.ensures.reads kind.ABSTRACT refl)) in let j = (known c.in_ok-abstractly.was (c.condition.ensures.0 kind.CONCRETE refl)) in (next (counted {c = c.args.from.count + 4} {d = c.in_ok-taken.taken.count} (omega arith) (framed (a_condition_to kind.CONCRETE ++ a_condition_to kind.END) h)) (next (framed (a_condition_to kind.CONCRETE ++ a_condition_to kind.END) i) (next (framed (a_condition_to kind.END) j) (c.condition-2.ensures.0 kind.END refl))), operation-made c.condition-2.new.code c.condition-2.result c.requires.2 c.requires.3 c.name_number-x.ensures c.put-count.ensures (made c.in_ok-taken.was c.parameters.ensures.1) (closed c.in_ok-word.was c.close.ensures) (made c.in_ok-abstractly.was c.condition.ensures.1) c.condition-2.ensures.1)
 
 pub returns-in_err-abstractly : goal.returns-in_err-abstractly
 unfolding code_of
-returns-in_err-abstractly c = rw (exits c.from_residual-in_err-abstractly.result c.from_residual-in_err-abstractly.ensures.1) (let room = c.requires.0 in let l = c.requires.1 in let w = c.put-m.ensures.count in let h = (known c.in_ok-taken.was c.parameters.ensures.0) in let o = (closed c.in_ok-word.was c.close.ensures).0.0 in let y = (closed c.in_ok-word.was c.close.ensures).1 in let i = (known c.in_ok-word.was (c.close.ensures.reads kind.ABSTRACT refl)) in (next (counted {c = c.args.n + 4} {d = c.in_ok-taken.taken.count} (omega arith) (framed (a_condition_to kind.CONCRETE ++ a_condition_to kind.END) h)) (next (counted {c = c.in_ok-taken.taken.count} {d = c.in_ok-taken.taken.count} (omega arith) (framed (a_condition_to kind.CONCRETE ++ a_condition_to kind.END) i)) (fails (framed (a_condition_to kind.END) (known c.in_err-abstractly.was (c.condition.ensures.0 kind.CONCRETE refl))))), tt))
+returns-in_err-abstractly c = rw (exits c.from_residual-in_err-abstractly.result c.from_residual-in_err-abstractly.ensures.1) (let h = (known c.in_ok-taken.was c.parameters.ensures.0) in let i = (known c.in_ok-word.was (c.close.ensures.reads kind.ABSTRACT refl)) in (next (counted {c = c.args.from.count + 4} {d = c.in_ok-taken.taken.count} (omega arith) (framed (a_condition_to kind.CONCRETE ++ a_condition_to kind.END) h)) (next (framed (a_condition_to kind.CONCRETE ++ a_condition_to kind.END) i) (fails (framed (a_condition_to kind.END) (known c.in_err-abstractly.was (c.condition.ensures.0 kind.CONCRETE refl))))), tt))
 
 pub returns-in_err-word : goal.returns-in_err-word
 unfolding code_of
-returns-in_err-word c = rw (exits c.from_residual-in_err-word.result c.from_residual-in_err-word.ensures.1) (let room = c.requires.0 in let l = c.requires.1 in let w = c.put-m.ensures.count in let h = (known c.in_ok-taken.was c.parameters.ensures.0) in (next (counted {c = c.args.n + 4} {d = c.in_ok-taken.taken.count} (omega arith) (framed (a_condition_to kind.CONCRETE ++ a_condition_to kind.END) h)) (fails (framed (a_condition_to kind.CONCRETE ++ a_condition_to kind.END) (known c.in_err-word.was (c.close.ensures.reads kind.ABSTRACT refl)))), tt))
+returns-in_err-word c = rw (exits c.from_residual-in_err-word.result c.from_residual-in_err-word.ensures.1) (let h = (known c.in_ok-taken.was c.parameters.ensures.0) in (next (counted {c = c.args.from.count + 4} {d = c.in_ok-taken.taken.count} (omega arith) (framed (a_condition_to kind.CONCRETE ++ a_condition_to kind.END) h)) (fails (framed (a_condition_to kind.CONCRETE ++ a_condition_to kind.END) (known c.in_err-word.was (c.close.ensures.reads kind.ABSTRACT refl)))), tt))
 
 pub returns-in_err-taken : goal.returns-in_err-taken
 unfolding code_of

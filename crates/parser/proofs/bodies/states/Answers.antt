@@ -13,7 +13,7 @@ use Rattle.parser.proofs.bodies.states.Goals as goal
 
 pub state-requires-2 : goal.state-requires-2
 unfolding code_of
-state-requires-2 c = let room = c.requires in let h = (known c.in_ok-first.was (c.state.ensures.0 kind.ABSTRACT refl)) in search rules
+state-requires-2 c = let h = (known c.in_ok-first.was (c.state.ensures.0 kind.ABSTRACT refl)) in search rules
 
 pub returns : goal.returns
 unfolding code_of

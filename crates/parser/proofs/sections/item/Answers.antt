@@ -5,11 +5,11 @@ use native.Mathlib.Omega.{arith}
 use Rattle.parser.proofs.ItemsPassed.{size-six, size-seven, size-other}
 use Rattle.parser.proofs.sections.item.Goals as goal
 
-pub returns-then-shape-eq-DECLARED : goal.returns-then-shape-eq-DECLARED
-returns-then-shape-eq-DECLARED c = record { size = size-six c.args.shape c.args.count c.if-shape-eq-DECLARED.true; some = omega arith }
+pub returns-in-6 : goal.returns-in-6
+returns-in-6 c = record { size = size-six c.args.shape c.args.count c.in-6.is; some = omega arith }
 
-pub returns-then-shape-eq-PREDICATE : goal.returns-then-shape-eq-PREDICATE
-returns-then-shape-eq-PREDICATE c = record { size = ap (λ (x : ℕ). 4 + x) c.from.ensures ∙ size-seven c.args.shape c.args.count c.if-shape-eq-PREDICATE.true; some = omega arith }
+pub returns-in-7 : goal.returns-in-7
+returns-in-7 c = record { size = ap (λ (x : ℕ). 4 + x) c.from.ensures ∙ size-seven c.args.shape c.args.count c.in-7.is; some = omega arith }
 
-pub returns : goal.returns
-returns c = record { size = size-other c.args.shape c.args.count c.if-shape-eq-DECLARED.false c.if-shape-eq-PREDICATE.false; some = omega arith }
+pub returns-in_default : goal.returns-in_default
+returns-in_default c = record { size = size-other c.args.shape c.args.count (λ q. absurd (omega arith)) (λ q. absurd (omega arith)); some = omega arith }

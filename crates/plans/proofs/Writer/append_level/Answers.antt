@@ -1,10 +1,10 @@
 -- `plans::Writer::append_level` meets its contract: the conjuncts of the predicates so far, one behind the other. Assumes nothing.
-use Prim.Native.Nat.{ℕ, ◌+◌, ◌≤◌}
-use mathlib.Core.Path.{◌≡◌, refl, sym, ap, subst, ◌∙◌}
+use Prim.Native.Nat.{◌+◌, ◌≤◌}
+use mathlib.Core.Path.{refl, sym, subst, ◌∙◌}
 use native.Mathlib.Omega.{arith}
 use lib.ListN.{length}
-use Rattle.plans.specs.PlansByNumber.{Asking, Rows, entries_of}
-use Rattle.plans.specs.PlanWriting.{asking, asked_in, Appended}
+use Rattle.plans.specs.PlansByNumber.{Rows, entries_of}
+use Rattle.plans.specs.PlanWriting.{asking, Appended}
 use Rattle.plans.proofs.LevelCounts.{each-asked, entries-fit, appended-start, appended-more, appended-end, asked-same}
 use Rattle.plans.proofs.Writer.append_level.Goals as goal
 

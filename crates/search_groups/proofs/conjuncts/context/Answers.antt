@@ -5,4 +5,4 @@ use Rattle.search_groups.proofs.ConjunctLists.{context-put}
 use Rattle.search_groups.proofs.conjuncts.context.Goals as goal
 
 pub returns-clause-put : goal.returns-clause-put
-returns-clause-put c = context-put c.from-from.ensures c.from-end.ensures (search rules) c.conjoin.ensures.put (omega arith)
+returns-clause-put c = context-put c.span-from.ensures.0 c.span-end.ensures.0 (search rules) c.conjoin.ensures.put (omega arith)

@@ -6,7 +6,9 @@ use Rattle.search_groups.proofs.ConjunctScan.{lasts-start, lasts-step, lasts-don
 use Rattle.search_groups.proofs.conjuncts.lasts.Goals as goal
 
 pub loop-n-init : goal.loop-n-init
-loop-n-init c = (search rules, lasts-start _ _ (search rules))
+loop-n-init c =
+    let z = c.default-best.ensures in
+    (search rules, lasts-start _ _ _ (record { abstracts = z.0; concretes = z.1.0; inputs = z.1.1.0; outputs = z.1.1.1.0; cprimed = z.1.1.1.1.0; aprimed = z.1.1.1.1.1 }) (search rules))
 
 pub loop-n-preserved : goal.loop-n-preserved
 loop-n-preserved c =

@@ -1,38 +1,53 @@
 -- `conjuncts::middle` meets its contract. Assumes nothing.
-use Prim.Native.Nat.{ℕ, ◌+◌, ◌-◌}
-use mathlib.Core.Path.{◌≡◌, ap, sym, ◌∙◌}
+use Prim.Native.Nat.{ℕ, ◌+◌, ◌-◌, ◌<◌, ◌≤◌}
+use mathlib.Core.Path.{◌≡◌, sym, ap, ◌∙◌}
+use mathlib.Core.List.{List}
+use mathlib.Core.Bool.{Bool, ◌&&◌}
+use mathlib.Core.Logic.{inl, inr}
+use lib.Dec.{leb}
 use lib.ListN.{get_or}
-use borrow.Author.Tests.{leb-true, leb-false}
+use Rattle.std.specs.Bool.{then_some}
+use Rattle.lexical.proofs.RangeTests.{ranged}
 use native.Mathlib.Omega.{arith}
+use Rattle.search_groups.proofs.GroupPlaces.{Part, part_of}
 use Rattle.search_groups.proofs.ConjunctTables.{middle-none, middle-picked}
 use Rattle.search_groups.proofs.conjuncts.middle.Goals as goal
-use Rattle.search_groups.proofs.conjuncts.middle.Goals.{then-from-m, else-from-m, then-table-at-ne-CONNECTED-via-then-table-at-ne-CONNECTED}
-use Rattle.search_groups.proofs.conjuncts.middle.Goals.{then-table-at-ne-CONNECTED-via-else-table-at-ne-CONNECTED+then-table-at-ne-AND}
+use Rattle.search_groups.proofs.conjuncts.middle.Goals.{then-n-ne-CONNECTED-via-then-n-ne-CONNECTED}
+use Rattle.search_groups.proofs.conjuncts.middle.Goals.{then-n-ne-CONNECTED-via-else-n-ne-CONNECTED+then-n-ne-AND}
 
-pub returns-then-table-at-ne-CONNECTED : goal.returns-then-table-at-ne-CONNECTED
-returns-then-table-at-ne-CONNECTED c =
-    let i : c.args.end - 4 + 3 ≡ c.args.end - 1 = omega arith in
-    let j : c.args.end - 4 + 1 ≡ c.args.end - 3 = omega arith in
-    let s = ap (λ (n : ℕ). get_or c.args.table.now n 0) i in
-    let a = ap (λ (n : ℕ). get_or c.args.table.now n 0) j in
-    middle-none c.args.table.now c.args.from c.args.end (λ n m l h. elim c.then-table-at-ne-CONNECTED.branch [
-      | then-table-at-ne-CONNECTED-via-then-table-at-ne-CONNECTED w ↦ omega arith
-      | then-table-at-ne-CONNECTED-via-else-table-at-ne-CONNECTED+then-table-at-ne-AND w ↦ omega arith
+-- a number of the last node
+last : {t n : List ℕ} {at end : ℕ} (j k : ℕ) → Part t at end n → (4 ≤ end) × (at ≡ end - 4) → j < 4 → k + 4 ≡ end + j → get_or n j 0 ≡ get_or t k 0
+last {t} {n} {at} {end} j k p a l e = let f = p.long in p.at j (omega arith) ∙ ap (λ (i : ℕ). get_or t i 0) (omega arith)
+
+pub returns-in_err-at : goal.returns-in_err-at
+returns-in_err-at c =
+    let few = rw c.in_err-at.was at c.checked_sub.ensures in
+    rw c.from_residual.ensures (middle-none c.args.table.now c.args.from c.args.end (λ n m l h. let e = l.long in few (omega arith)))
+
+pub returns-in_err-n : goal.returns-in_err-n
+returns-in_err-n c =
+    let at = rw c.in_ok-at.was at c.checked_sub.ensures in
+    let out = rw c.in_err-n.was at c.get.ensures.lookup in
+    rw c.from_residual-in_err-n.ensures (middle-none c.args.table.now c.args.from c.args.end (λ n m l h. let i = l.inside in elim out.0 [ inl w ↦ omega arith | inr w ↦ omega arith ]))
+
+pub returns-then-n-ne-CONNECTED : goal.returns-then-n-ne-CONNECTED
+returns-then-n-ne-CONNECTED c =
+    let at = rw c.in_ok-at.was at c.checked_sub.ensures in
+    let p = part_of c.get.ensures.lookup c.in_ok-n.was in
+    let s = last 3 (c.args.end - 1) p at (omega arith) (omega arith) in
+    let a = last 1 (c.args.end - 3) p at (omega arith) (omega arith) in
+    middle-none c.args.table.now c.args.from c.args.end (λ n m l h. elim c.then-n-ne-CONNECTED.branch [
+      | then-n-ne-CONNECTED-via-then-n-ne-CONNECTED w ↦ omega arith
+      | then-n-ne-CONNECTED-via-else-n-ne-CONNECTED+then-n-ne-AND w ↦ omega arith
     ])
 
 pub returns : goal.returns
 returns c =
     let m = c.from-m.result in
-    let i : c.args.end - 1 ≡ c.args.end - 4 + 3 = omega arith in
-    let j : c.args.end - 3 ≡ c.args.end - 4 + 1 = omega arith in
-    let k : c.args.end - 4 + 2 ≡ c.args.end - 2 = omega arith in
-    let s = ap (λ (n : ℕ). get_or c.args.table.now n 0) i ∙ c.if-table-at-ne-CONNECTED.false in
-    let a = ap (λ (n : ℕ). get_or c.args.table.now n 0) j ∙ c.if-table-at-ne-AND.false in
-    let picked = middle-picked c.args.table.now c.args.from c.args.end m c.if-from-m.then_some c.then_some.result c.then_some.ensures s a (c.from-m.ensures ∙ ap (λ (n : ℕ). get_or c.args.table.now n 0) k) in
-    elim c.if-from-m.branch [
-      | then-from-m w ↦
-          picked (λ e. (omega arith, omega (arith, leb-true m (c.args.end - 4) (sym w.then_some-is ∙ e))))
-          (λ e u v. let l = leb-false m (c.args.end - 4) (sym w.then_some-is ∙ e) in omega arith)
-      | else-from-m w ↦
-          picked (λ e. absurd (let l = leb-true c.args.from m (sym w.then_some-is ∙ e) in omega arith)) (λ e u v. omega arith)
-    ]
+    let at = rw c.in_ok-at.was at c.checked_sub.ensures in
+    let p = part_of c.get.ensures.lookup c.in_ok-n.was in
+    let s = sym (last 3 (c.args.end - 1) p at (omega arith) (omega arith)) ∙ c.if-n-ne-CONNECTED.false in
+    let a = sym (last 1 (c.args.end - 3) p at (omega arith) (omega arith)) ∙ c.if-n-ne-AND.false in
+    let b = last 2 (c.args.end - 2) p at (omega arith) (omega arith) in
+    let within = c.contains.ensures.value ∙ ranged m c.new.ensures.start c.new.ensures.end c.new.ensures.exhausted in
+    middle-picked c.args.table.now c.args.from c.args.end m c.then_some.result at.0 (c.then_some.ensures ∙ ap (λ (b : Bool). then_some b m) (within ∙ ap (λ (i : ℕ). leb c.args.from m && leb m i) at.1)) s a (c.from-m.ensures ∙ b)

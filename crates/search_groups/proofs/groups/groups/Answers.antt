@@ -18,5 +18,5 @@ returns c =
     let e = length-append c.group.new.row (drop 9 c.args.out.now) in
     let f = length-drop 9 (c.group.new.row ++ drop 9 c.args.out.now) in
     let g = length-take-le 9 (drop 9 (c.group.new.row ++ drop 9 c.args.out.now)) (omega arith) in
-    grouped c.from-a.ensures c.from-b.ensures c.from-c.ensures c.from-d.ensures c.group.ensures (front-written 9 c.group.new.row c.args.out.now (omega arith)) c.group-2.ensures
+    grouped c.span-a.ensures.0 c.span-b.ensures.0 c.span-c.ensures.0 c.span-d.ensures.0 c.group.ensures (front-written 9 c.group.new.row c.args.out.now (omega arith)) c.group-2.ensures
     (part-written 9 9 (c.group.new.row ++ drop 9 c.args.out.now) c.group-2.new.row c.group-2.new.row refl (omega arith)) c.operation_rows.ensures (omega arith)

@@ -1,5 +1,4 @@
 -- `groups::bind` meets its contract: each variable has the quotient's value, and those behind it share the remainder. Assumes nothing.
-use lib.IntN.{pos}
 use mir.Facts.{to_z-of_z}
 use mir.Syntax.{w64}
 use mathlib.Core.Path.{refl, ◌∙◌}
@@ -8,10 +7,10 @@ use Rattle.slot_carriers.proofs.GroupBindings.{group-end, bound-start, bound-slo
 use Rattle.slot_carriers.proofs.groups.bind.Goals as goal
 
 pub overflow_add-slot-end : goal.overflow_add-slot-end
-overflow_add-slot-end c = omega (arith, group-end c.args.cells.now c.args.base c.args.n 18446744073709551615 c.requires.grouped (omega arith) (omega arith))
+overflow_add-slot-end c = omega (arith, group-end c.args.cells.now c.args.base c.args.size.variables 18446744073709551615 c.requires.grouped (omega arith) (omega arith))
 
 pub loop-slot-init : goal.loop-slot-init
-loop-slot-init c = bound-start c.args.cells.now c.args.base c.args.n c.args.w c.args.k c.args.slots.now c.requires.k_lt_w c.requires.grouped c.requires.counts
+loop-slot-init c = bound-start c.args.cells.now c.args.base c.args.size.variables c.args.size.bindings c.args.k c.args.slots.now c.requires.k_lt_w c.requires.grouped c.requires.counts
 
 pub count_of-stride-requires : goal.count_of-stride-requires
 count_of-stride-requires c = bound-slot c.loop-slot.invariant c.loop-slot-test.true

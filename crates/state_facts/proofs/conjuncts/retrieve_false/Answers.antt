@@ -7,10 +7,10 @@ use Rattle.state_facts.proofs.ConjunctLaws.{every-context, retrieve-asked, pair-
 use Rattle.state_facts.proofs.conjuncts.retrieve_false.Goals as goal
 
 pub bind_pair-requires : goal.bind_pair-requires
-bind_pair-requires c = both-sized c.requires
+bind_pair-requires c = both-sized c.s.invariant
 
 pub first_false-requires : goal.first_false-requires
-first_false-requires c = record { counted = λ i h. search rules; asked = retrieve-asked c.bind_pair.ensures.values c.bind_pair.ensures.others.same_length (omega (arith, c.if-s-x.false)) (omega (arith, c.if-s-x-2.false)) c.requires }
+first_false-requires c = record { counted = λ i h. search rules; asked = retrieve-asked c.bind_pair.ensures.values c.bind_pair.ensures.others.same_length (omega (arith, c.if-s-x.false)) (omega (arith, c.if-s-x-2.false)) c.s.invariant }
 
 pub returns : goal.returns
-returns c = pair-first c.bind_pair.ensures.values c.bind_pair.ensures.others.same_length (omega (arith, c.if-s-x.false)) (omega (arith, c.if-s-x-2.false)) (every-context (c.first_false.ensures.means (λ i. true) (λ i b h q. search (rules, q))))
+returns c = rw (← c.s.view_is) (pair-first c.bind_pair.ensures.values c.bind_pair.ensures.others.same_length (omega (arith, c.if-s-x.false)) (omega (arith, c.if-s-x-2.false)) (every-context (c.first_false.ensures.means (λ i. true) (λ i b h q. search (rules, q)))))

@@ -3,10 +3,10 @@ use Rattle.state_facts.proofs.SearchLaws.{both-sized, related-asked, related-is}
 use Rattle.state_facts.proofs.searches.related_at.Goals as goal
 
 pub bind_pair-requires : goal.bind_pair-requires
-bind_pair-requires c = both-sized c.requires.search_asked
+bind_pair-requires c = both-sized c.s.invariant
 
 pub related-requires : goal.related-requires
-related-requires c = related-asked c.bind_pair.ensures.values c.bind_pair.ensures.others.same_length c.requires.search_asked c.requires.x_bound.0 c.requires.x_bound.1
+related-requires c = related-asked c.bind_pair.ensures.values c.bind_pair.ensures.others.same_length c.s.invariant (rw (← c.s.view_is) at c.requires.x_bound.0) (rw (← c.s.view_is) at c.requires.x_bound.1)
 
 pub returns : goal.returns
-returns c = related-is c.bind_pair.ensures.values c.bind_pair.ensures.others.same_length c.requires.x_bound.0 c.requires.x_bound.1 c.related.ensures.answers
+returns c = rw (← c.s.view_is) (related-is c.bind_pair.ensures.values c.bind_pair.ensures.others.same_length (rw (← c.s.view_is) at c.requires.x_bound.0) (rw (← c.s.view_is) at c.requires.x_bound.1) c.related.ensures.answers)

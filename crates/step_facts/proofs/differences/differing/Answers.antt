@@ -11,13 +11,13 @@ use Rattle.step_facts.specs.FactPromises.{PlaceAmong}
 use Rattle.step_facts.proofs.differences.differing.Goals as goal
 
 pub returns-then-d-j : goal.returns-then-d-j
-returns-then-d-j c = place-unlisted (omega (arith, c.if-d-j.true))
+returns-then-d-j c = rw (← c.d.view_is) (place-unlisted (omega (arith, c.if-d-j.true)))
 
 pub prepare-ready-requires : goal.prepare-ready-requires
-prepare-ready-requires c = prepare-asked c.requires (omega (arith, c.if-d-j.false))
+prepare-ready-requires c = prepare-asked c.d.invariant (omega (arith, c.if-d-j.false))
 
 pub invariant_of-s : goal.invariant_of-s
-invariant_of-s c = lent StepsAsked c.search.ensures.table c.search.ensures.plan c.search.ensures.cells c.search.ensures.part (steps-asked c.requires (omega (arith, c.if-d-j.false)) c.prepare-ready.ensures)
+invariant_of-s c = lent StepsAsked c.search.ensures.table c.search.ensures.plan c.search.ensures.cells c.search.ensures.part (steps-asked c.d.invariant (omega (arith, c.if-d-j.false)) c.prepare-ready.ensures)
 
 pub fill_masks-requires : goal.fill_masks-requires
 fill_masks-requires c = record {
@@ -32,5 +32,5 @@ place_among-requires c = record {
 
 pub returns : goal.returns
 returns c =
-    place_is (omega (arith, c.if-d-j.false)) c.prepare-ready.ensures c.place_among.result
-    (returned (λ t q x p. PlaceAmong t q x p (is_abstract c.args.side) c.place_among.result) c.search.ensures.table c.search.ensures.plan c.search.ensures.cells c.search.ensures.part c.place_among.ensures.found)
+    rw (← c.d.view_is) (place_is (omega (arith, c.if-d-j.false)) c.prepare-ready.ensures c.place_among.result
+    (returned (λ t q x p. PlaceAmong t q x p (is_abstract c.args.side) c.place_among.result) c.search.ensures.table c.search.ensures.plan c.search.ensures.cells c.search.ensures.part c.place_among.ensures.found))

@@ -13,10 +13,10 @@ pub returns-then-d-j : goal.returns-then-d-j
 returns-then-d-j c = record { is = tt }
 
 pub prepare-ready-requires : goal.prepare-ready-requires
-prepare-ready-requires c = prepare-asked c.requires (omega (arith, c.if-d-j.false))
+prepare-ready-requires c = prepare-asked c.d.invariant (omega (arith, c.if-d-j.false))
 
 pub invariant_of-s : goal.invariant_of-s
-invariant_of-s c = lent StepsAsked c.search.ensures.table c.search.ensures.plan c.search.ensures.cells c.search.ensures.part (steps-asked c.requires (omega (arith, c.if-d-j.false)) c.prepare-ready.ensures)
+invariant_of-s c = lent StepsAsked c.search.ensures.table c.search.ensures.plan c.search.ensures.cells c.search.ensures.part (steps-asked c.d.invariant (omega (arith, c.if-d-j.false)) c.prepare-ready.ensures)
 
 pub step_from-requires : goal.step_from-requires
 step_from-requires c = record {
@@ -26,4 +26,4 @@ step_from-requires c = record {
 
 pub returns : goal.returns
 returns c =
-    step_is c.step_from.result c.prepare-ready.ensures (returned (λ t q x p. StepFound t q x p c.args.x.a c.args.x.c c.step_from.result) c.search.ensures.table c.search.ensures.plan c.search.ensures.cells c.search.ensures.part c.step_from.ensures.found)
+    rw (← c.d.view_is) (step_is c.step_from.result c.prepare-ready.ensures (returned (λ t q x p. StepFound t q x p c.args.x.a c.args.x.c c.step_from.result) c.search.ensures.table c.search.ensures.plan c.search.ensures.cells c.search.ensures.part c.step_from.ensures.found))

@@ -1,6 +1,5 @@
 -- `runs::step_at` meets its contract. Assumes nothing.
 use native.Mathlib.Omega.{arith}
-use borrow.Author.Tests.{not-false}
 use Rattle.step_facts.proofs.AskedFacts.{sizes-of}
 use Rattle.step_facts.proofs.BothSteps.{below_step, step-here}
 use Rattle.step_searches.proofs.LentSearches.{asked}
@@ -22,4 +21,4 @@ pub next_matching_state-requires : goal.next_matching_state-requires
 next_matching_state-requires c = record { below = rw c.s.view_is (below_step c.requires.x_bound.0.a_low c.requires.x_bound.1 (asked c.s.view_is c.s.invariant) c.in_ok-step.ensures.low); from_le_na = omega arith; memo = c.next_concrete_step.ensures.remembers }
 
 pub returns : goal.returns
-returns c = record { found = rw c.s.view_is (step-here c.requires.x_bound.0.a_low c.requires.x_bound.1 (asked c.s.view_is c.s.invariant) c.in_ok-step.ensures.low c.able.ensures.found (not-false _ c.if-not-able.false-raw) c.in_ok-step.ensures.found (rw c.s.view_is at c.in_ok-b.ensures.found) c.in_ok-b.ensures.low); remembers = c.next_matching_state.ensures.remembers }
+returns c = record { found = rw c.s.view_is (step-here c.requires.x_bound.0.a_low c.requires.x_bound.1 (asked c.s.view_is c.s.invariant) c.in_ok-step.ensures.low c.able.ensures.found c.if-not-able.false c.in_ok-step.ensures.found (rw c.s.view_is at c.in_ok-b.ensures.found) c.in_ok-b.ensures.low); remembers = c.next_matching_state.ensures.remembers }

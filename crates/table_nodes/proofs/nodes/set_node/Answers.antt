@@ -1,9 +1,17 @@
 -- `nodes::set_node` meets its contract. Assumes nothing.
-use Prim.Native.Nat.{◌+◌, ◌-◌}
+use lib.ListN.{length-set}
 use native.Mathlib.Omega.{arith}
-use Rattle.form.specs.Codes.{node}
-use Rattle.table_nodes.proofs.Pieces.{part-written}
+use Rattle.table_nodes.proofs.Pieces.{four-stored}
 use Rattle.table_nodes.proofs.nodes.set_node.Goals as goal
 
+pub bounds-out-at-2 : goal.bounds-out-at-2
+bounds-out-at-2 c = simp length-set (omega arith)
+
+pub bounds-out-at-3 : goal.bounds-out-at-3
+bounds-out-at-3 c = simp length-set (omega arith)
+
+pub bounds-out-at-4 : goal.bounds-out-at-4
+bounds-out-at-4 c = simp length-set (omega arith)
+
 pub returns : goal.returns
-returns c = part-written c.args.at (c.args.at + 4 - c.args.at) c.args.out.now _ (node c.args.shape c.args.i c.args.a c.args.b) c.copy_from_slice.ensures.after (omega arith)
+returns c = four-stored c.args.out.now c.args.at c.args.shape c.args.i c.args.a c.args.b (omega arith)

@@ -10,4 +10,4 @@ pub set_operations-requires : goal.set_operations-requires
 set_operations-requires c = let d = c.set_conditions.auto.out in let a = c.set_states.auto.out in let p = c.requires.fits in let q = c.requires.small in record { fits = omega arith; small = omega arith }
 
 pub returns : goal.returns
-returns c = contexts-set c.args.s.now.nodes.now c.args.s.now.spans.now c.args.s.now.abstracts.now c.args.s.now.concretes.now c.args.s.now.operations c.args.names.now _ _ c.args.places.now _ _ c.args.s.now.sizes.now c.args.out.now _ _ _ c.set_states.ensures c.set_conditions.ensures c.set_operations.ensures
+returns c = contexts-set c.args.s.now.parts.nodes.now c.args.s.now.parts.spans.now c.args.s.now.states.abstracts.now c.args.s.now.states.concretes.now c.args.s.now.parts.operations c.args.names.now _ _ c.args.places.now _ _ c.args.s.now.sizes.now c.args.out.now _ _ _ c.set_states.ensures c.set_conditions.ensures c.set_operations.ensures

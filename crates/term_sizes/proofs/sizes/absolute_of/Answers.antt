@@ -17,4 +17,4 @@ apart a = on (ltb a 1000) refl
     on false h = let l = ltb-false a 1000 h in omega arith
 
 pub returns : goal.returns
-returns c = (c.from.ensures ∙ c.abs_diff.ensures ∙ apart c.args.a, omega arith)
+returns c = c.abs_diff.ensures ∙ apart c.args.a

@@ -8,10 +8,10 @@ use Rattle.term_sizes.proofs.SizeWalkTerms.{domain-given, domain-range}
 use Rattle.term_sizes.proofs.sizes.domain.Goals as goal
 
 pub returns-then-code-lt-SIZE : goal.returns-then-code-lt-SIZE
-returns-then-code-lt-SIZE c = domain-short c.args.code.now (length c.args.code.now) (omega arith) [] _ c.bare.ensures.2 c.bare.ensures.0 c.if-code-lt-SIZE.true
+returns-then-code-lt-SIZE c = domain-short c.args.code.now (length c.args.code.now) (omega arith) [] _ refl c.if-code-lt-SIZE.true
 
-pub returns-then-code-at-eq-SET : goal.returns-then-code-at-eq-SET
-returns-then-code-at-eq-SET c = domain-given c.args.code.now (length c.args.code.now) (omega arith) _ c.if-code-at-eq-SET.true c.bare-then-code-at-eq-SET.ensures
+pub returns-then-code-start-eq-SET : goal.returns-then-code-start-eq-SET
+returns-then-code-start-eq-SET c = domain-given c.args.code.now (length c.args.code.now) (omega arith) _ c.if-code-start-eq-SET.true refl refl
 
 pub returns : goal.returns
-returns c = domain-range c.args.code.now (length c.args.code.now) (omega arith) c.last_node-n.result _ c.absolute_of-a.result c.absolute_of-b.result c.last_node-n.ensures c.if-code-at-eq-SET.false c.absolute_of-a.ensures.0 c.absolute_of-b.ensures.0 c.max.ensures (let p = c.absolute_of-a.ensures.1 in let q = c.absolute_of-b.ensures.1 in omega arith) refl refl
+returns c = domain-range c.args.code.now (length c.args.code.now) (omega arith) c.last_node-n.result _ c.absolute_of-a.result c.absolute_of-b.result c.last_node-n.ensures c.if-code-start-eq-SET.false c.absolute_of-a.ensures c.absolute_of-b.ensures c.max.ensures refl

@@ -9,4 +9,4 @@ use Rattle.term_sizes.proofs.SizeWalkTerms.{term-number}
 use Rattle.term_sizes.proofs.sizes.number.Goals as goal
 
 pub returns : goal.returns
-returns c = term-number (ended c.args.front.now 1 c.args.n) (length c.args.front.now + 4) (ended-fits c.args.front.now 1 c.args.n) c.args.bounds.now c.args.n _ (ended-node c.args.front.now 1 c.args.n) (ended-shape c.args.front.now 1 c.args.n) c.from.ensures (omega arith) refl (omega arith)
+returns c = term-number (ended c.args.front.now 1 c.args.n) (length c.args.front.now + 4) (ended-fits c.args.front.now 1 c.args.n) c.args.bounds.now c.args.n _ (ended-node c.args.front.now 1 c.args.n) (ended-shape c.args.front.now 1 c.args.n) c.from.ensures refl (omega arith)

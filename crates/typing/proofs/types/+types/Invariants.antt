@@ -27,7 +27,7 @@ abbrev pub decreases-member : goal.decreases-member
 decreases-member l = 3 * (length l.front.now + 4)
 
 abbrev pub decreases-pair : goal.decreases-pair
-decreases-pair l = 3 * length l.code.now + 2
+decreases-pair l = 3 * length l.code.now + 3
 
 abbrev pub decreases-paired : goal.decreases-paired
 decreases-paired l = 3 * (length l.front.now + 4)
@@ -46,6 +46,9 @@ decreases-quantified l = 3 * (length l.front.now + 4)
 
 abbrev pub decreases-related : goal.decreases-related
 decreases-related l = 3 * (length l.front.now + 4)
+
+abbrev pub decreases-two_terms : goal.decreases-two_terms
+decreases-two_terms l = 3 * length l.code.now + 2
 
 abbrev pub decreases-such : goal.decreases-such
 decreases-such l = 3 * (length l.front.now + 4)

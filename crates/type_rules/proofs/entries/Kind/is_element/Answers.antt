@@ -1,12 +1,9 @@
 -- `entries::Kind::is_element` meets its contract. Assumes nothing.
-use borrow.Author.Tests.{le-leb, lt-leb}
+use mathlib.Core.Path.{ap, ◌∙◌}
 use Rattle.type_rules.specs.TypesByNumber.{is_element}
+use Rattle.lexical.proofs.RangeTests.{in_range}
 use Rattle.type_rules.proofs.entries.Kind.is_element.Goals as goal
 
-pub returns-then-self-ge-ELEMENT : goal.returns-then-self-ge-ELEMENT
+pub returns : goal.returns
 unfolding is_element
-returns-then-self-ge-ELEMENT c = rw (is_element, ← c.self.view_is, le-leb 16 c.self.inside.code c.if-self-ge-ELEMENT.true)
-
-pub returns-else-self-ge-ELEMENT : goal.returns-else-self-ge-ELEMENT
-unfolding is_element
-returns-else-self-ge-ELEMENT c = rw (is_element, ← c.self.view_is, lt-leb 16 c.self.inside.code c.if-self-ge-ELEMENT.false)
+returns c = c.contains.ensures.value ∙ in_range 16 32 c.self.inside.code ∙ ap is_element c.self.view_is

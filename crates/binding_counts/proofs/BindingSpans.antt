@@ -13,10 +13,11 @@ use Rattle.form.specs.Headings.{operation_length}
 use Rattle.form.specs.Codes.{Numbering}
 use Rattle.type_rules.specs.TypesByNumber.{Names, Sizes, key, unless_key, lesser}
 use Rattle.names.specs.DeclaredNamesNamesByNumber.{Typed, variables_of, parameters_of, typed_codes}
-use Rattle.names.specs.DeclaredNamesPassPromises.{PartOf}
+use Rattle.node_spans.specs.ParserSections.{PartOf}
+use Rattle.node_spans.proofs.StandingParts.{part-stands, part-read}
 use Rattle.names.proofs.TypesAgreeLeast.{lesser-zero, lesser-assoc, zero-lesser}
 use Rattle.names.proofs.PassSteps.{variables-codes, parameters-codes}
-use Rattle.node_spans.specs.Spans.{Stands, span, HeadingAt, OperationsAt, one_more}
+use Rattle.node_spans.specs.Spans.{span, HeadingAt, OperationsAt, one_more}
 use Rattle.binding_counts.specs.BindingsByNumber.{typed_count, state_over, operation_over, operations_over, GroupCounted, HeadingFaulted, StateBound, OperationBound, OperationsBound}
 use Rattle.binding_counts.proofs.CappedCounts.{cap-leb}
 
@@ -40,29 +41,25 @@ module _ (nodes : List ℕ) (from : ℕ) (ok : Bool) where
 
 -- ---- a group ----
 
-pub part-stands : (nodes : List ℕ) (f t from to : ℕ) (code codes : List ℕ) → from ≡ f → to ≡ t → PartOf nodes from to code → Stands nodes f t codes → code ≡ codes
-part-stands nodes f t from to code codes p q h s =
-    (subst (λ (y : ℕ). PartOf nodes f y code) q (subst (λ (x : ℕ). PartOf nodes x to code) p h)).part s.ordered s.inside ∙ s.stands
-
 group-fits : (code : List ℕ) (e c : ℕ) (T : Names) (z : Sizes) (n i : ℕ) (xs : List Typed) (ρ : Numbering) → GroupCounted code e c T z n → code ≡ typed_codes i xs ρ
     → leb n c ≡ leb (typed_count e xs T ρ z) c
 group-fits code e c T z n i xs ρ g h = cap-leb c (typed_count e xs T ρ z) n (g xs i ρ h)
 
-module _ (nodes spans : List ℕ) (k : ℕ) (T : Names) (z : Sizes) (from to : ℕ) (code : List ℕ) where
-  pub state-bound : (n r : ℕ) → from ≡ span spans k → to ≡ span spans (k + 1) → PartOf nodes from to code → GroupCounted code 0 4096 T z n
-      → HeadingFaulted nodes from (leb n 4096) r → StateBound nodes spans k T z r
+module _ (nodes spans : List ℕ) (k : ℕ) (T : Names) (z : Sizes) (code : List ℕ) where
+  pub state-bound : (n r : ℕ) → PartOf nodes (span spans k) (span spans (k + 1)) code → GroupCounted code 0 4096 T z n
+      → HeadingFaulted nodes (span spans k) (leb n 4096) r → StateBound nodes spans k T z r
   unfolding state_over
-  state-bound n r p q h g f s i ρ w =
-      let is = part-stands nodes (span spans k) (span spans (k + 1)) from to code _ p q h w.variables in
-      f i (subst (λ (x : ℕ). HeadingAt nodes x i) (sym p) w.heading)
+  state-bound n r h g f s i ρ w =
+      let is = part-stands nodes (span spans k) (span spans (k + 1)) code _ h w.variables in
+      f i w.heading
       ∙ ap (λ (b : Bool). unless_key b (key i 12))
       (group-fits code 0 4096 T z n (suc i) (variables_of no_ending (declarations s)) ρ g (is ∙ sym (variables-codes (suc i) (declarations s) ρ)))
 
-  pub operation-bound : (n m r : ℕ) (ok : Bool) → from ≡ span spans (9 + 4 * k) → to ≡ span spans (9 + 4 * k + 1) → PartOf nodes from to code → GroupCounted code 2 64 T z n
+  pub operation-bound : (from to n m r : ℕ) (ok : Bool) → from ≡ span spans (9 + 4 * k) → to ≡ span spans (9 + 4 * k + 1) → PartOf nodes from to code → GroupCounted code 2 64 T z n
       → GroupCounted code 3 64 T z m → ok ≡ (leb n 64 && leb m 64) → HeadingFaulted nodes from ok r → OperationBound nodes spans k T z r
   unfolding operation_over
-  operation-bound n m r ok p q h g g' t f o i ρ w =
-      let is = part-stands nodes (span spans (9 + 4 * k)) (span spans (9 + 4 * k + 1)) from to code _ p q h w.parameters ∙ sym (parameters-codes (i + 2) o.parameters ρ) in
+  operation-bound from to n m r ok p q h g g' t f o i ρ w =
+      let is = part-stands nodes (span spans (9 + 4 * k)) (span spans (9 + 4 * k + 1)) code _ (part-read nodes _ _ _ _ code p q h) w.parameters ∙ sym (parameters-codes (i + 2) o.parameters ρ) in
       f i (subst (λ (x : ℕ). HeadingAt nodes x i) (sym p) w.heading)
       ∙ ap (λ (b : Bool). unless_key b (key i 12))
       (t ∙ ap₂ ◌&&◌ (group-fits code 2 64 T z n (i + 2) (parameters_of o.parameters) ρ g is) (group-fits code 3 64 T z m (i + 2) (parameters_of o.parameters) ρ g' is))

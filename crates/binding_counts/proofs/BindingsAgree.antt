@@ -4,12 +4,11 @@ use mathlib.Core.Path.{◌≡◌, refl, ap, ap₂, ◌∙◌, sym}
 use mathlib.Core.Bool.{Bool, true, false, ◌&&◌, cond}
 use mathlib.Core.List.{List, [], ◌∷◌, ◌++◌, map}
 use mathlib.Core.Option.{some}
-use Prim.Native.Nat.{ℕ, zero, suc, ◌+◌, ◌-◌, ◌*◌, ◌^◌, ◌%◌, ◌≤◌}
+use Prim.Native.Nat.{ℕ, suc, ◌+◌, ◌-◌, ◌*◌, ◌^◌, ◌%◌, ◌≤◌}
 use native.Mathlib.Omega.{arith}
 use lib.Dec.{eqb, leb}
-use lib.IntN.{ℤ, pos, negsuc, sub_ℕ, ◌-ℤ◌, nat_abs}
+use lib.IntN.{pos, ◌-ℤ◌, nat_abs}
 use lib.Signed.{le_z, lt_z}
-use borrow.Author.Tests.{leb-true, le-ltb}
 use Rattle.lexical.specs.Lists.{filter}
 use Rattle.lexical.specs.Symbols.{Name, Ending, no_ending, prime, query, shriek}
 use Rattle.refusals.specs.Refusals.{fault, number_of, unless, many_bindings, wide_type, Fault}
@@ -25,34 +24,24 @@ use Rattle.static_rules.specs.Limits.{binding_count, operation_bindings, binding
 use Rattle.type_rules.specs.TypesByNumber.{Names, Sizes, key, unless_key, lesser, least_key}
 use Rattle.names.specs.DeclaredNamesNamesByNumber.{Typed, variables_of, parameters_of}
 use Rattle.names.proofs.TypesAgreeLeast.{lesser-assoc, least-nil, unless-least, two-parts}
-use Rattle.names.proofs.TypesAgreeTypes.{no-yes}
 use Rattle.binding_counts.specs.DeclaredTypesFit.{TypesFit, no_types, one_type, OperationsFit, no_operations, one_operation, DeclaredFit}
 use Rattle.binding_counts.specs.BindingsByNumber.{size_at, type_count, typed_count, state_over, operation_over, operations_over, StateBound, OperationsBound, TypeShown, TypesShown, one_shown, OperationsShown, operation_shown, GivensShown, BindingsSeen}
 use Rattle.refusals.proofs.FaultLists.{append_nil-both, unless-nil}
 use Rattle.static_rules.proofs.Faultless.{given-known}
 use Rattle.static_rules.proofs.FoundCarriers.{arrow-carrier, given-carrier, power-carrier}
 use Rattle.lexical.proofs.BooleanTests.{and_left}
-use Rattle.names.proofs.TypesAgreeRanges.{Stands, above, below, end-stands}
+use Rattle.names.proofs.TypesAgreeRanges.{end-stands, stand-width}
 
 -- ---- ranges ----
-
-sub_abs : (a b : ℕ) → b ≤ a → nat_abs (sub_ℕ a b) ≡ a - b
-sub_abs a b h = ap (λ (t : Bool). nat_abs (cond t (negsuc (b - suc a)) (pos (a - b)))) (le-ltb a b h)
-
-range-width : {x y : ℤ} {k l : ℕ} → Stands x k → Stands y l → le_z x y ≡ true → l - k + 1 ≡ nat_abs (y -ℤ x) + 1
-range-width (above {a = zero} {k = k} e) (above {a = b} {k = l} f) h = omega arith
-range-width (above {a = suc a} {k = k} e) (above {a = b} {k = l} f) h = let o = leb-true (suc a) b h in omega (arith, sub_abs b (suc a) o)
-range-width (above {a = a} {k = k} e) (below {a = b} {k = l} f) h = no-yes h
-range-width (below {a = a} {k = k} e) (above {a = b} {k = l} f) h = omega arith
-range-width (below {a = a} {k = k} e) (below {a = b} {k = l} f) h = let o = leb-true b a h in omega (arith, sub_abs (suc a) (suc b) (omega arith))
 
 range-counts : (r : Range) (i : ℕ) → range_faults r i ≡ [] → r.lower.magnitude ≤ 1000 → r.upper.magnitude ≤ 1000
     → end_number r.upper - end_number r.lower + 1 ≡ nat_abs (end_value r.upper -ℤ end_value r.lower) + 1
 unfolding range_faults range_fits
 range-counts r i e p q =
-    range-width (end-stands r.lower.negative r.lower.magnitude p) (end-stands r.upper.negative r.upper.magnitude q)
+    let w = stand-width (end-stands r.lower.negative r.lower.magnitude p) (end-stands r.upper.negative r.upper.magnitude q)
     (and_left (le_z (end_value r.lower) (end_value r.upper)) (lt_z (end_value r.upper -ℤ end_value r.lower) (pos 64))
-    (unless-nil (range_fits (end_value r.lower) (end_value r.upper)) (fault (i + end_length r.lower) wide_type) e))
+    (unless-nil (range_fits (end_value r.lower) (end_value r.upper)) (fault (i + end_length r.lower) wide_type) e)) in
+    omega arith
 
 -- ---- types ----
 

@@ -8,7 +8,6 @@ use form::{node, shapes};
 use lexical::bounds::{PARAMETER_BINDINGS, STATE_BINDINGS};
 use lexical::endings;
 use names::SIZES;
-use names::passes::part;
 use node_spans::{Parts, span};
 use refusals::{Fault, Refusal};
 use type_rules::entries::Kind;
@@ -121,16 +120,14 @@ fn state(p: &Parts<'_>, k: usize, g: &Sets<'_>) -> Option<Fault>
     requires { k < 80 }
     ensures { StateBound p.now.nodes.now p.now.spans.now k g.now.names.now g.now.sizes.now (fault_key result) }
 {
-    let from = p.span(k);
-    let to = p.span(k + span::STATE_LAST);
     let limit = Limit {
         most: STATE_BINDINGS,
     };
-    let n = group(part(p.nodes, from, to), PLAIN, limit, g);
+    let n = group(p.variables(k), PLAIN, limit, g);
     if n <= STATE_BINDINGS {
         return None;
     }
-    heading_fault(p.nodes, from)
+    heading_fault(p.nodes, p.span(k))
 }
 
 fn both_few(n: u32, m: u32) -> bool
@@ -145,7 +142,7 @@ fn operation(p: &Parts<'_>, k: usize, g: &Sets<'_>) -> Option<Fault>
     ensures { OperationBound p.now.nodes.now p.now.spans.now k g.now.names.now g.now.sizes.now (fault_key result) }
 {
     let o = p.operation(k);
-    let code = part(p.nodes, o.first, o.last);
+    let code = p.parameters(&o);
     let limit = Limit {
         most: PARAMETER_BINDINGS,
     };

@@ -1,72 +1,78 @@
-// Bytes that are written one behind the other into memory of fixed size. What has no room is left out, so that nobody need count.
+// Items that are stored one behind the other in memory of fixed size: the bytes of a text, the items of a page. What has no room is left out, so that nobody need count.
 #![tactic(auto)]
 
 ghost use Rattle.std.specs.Prelude.{◌≡◌, [], ◌∷◌, ◌++◌, ◌<◌, ◌≤◌, length, take, set, replicate, ◌+◌, min};
 
 use std::marker::Model;
 
-// The first `len` bytes are those that are written.
-// Form 6: an array with a length beside it needs no heap, which the programs do without, and so `new`, `put` and `put_all` cannot fail.
+// The first `len` items are those that are stored.
+// Form 6: an array with a length beside it needs no heap, which the programs do without, and so `new`, `put` and `put_all` cannot fail. `ArrayVec` of the kit has no heap either, and leaves out
+// what has no room by `try_push` and `extend`; but `extend` pushes one item after the other, where `put_all` copies at once, and for n bytes at a place (`insert`) it has no call.
 #[derive(Drop)]
-pub struct BoundedText<const N: usize> {
-    bytes: [u8; N],
+pub struct Bounded<T, const N: usize> {
+    items: [T; N],
     len: usize,
 }
 
-impl<const N: usize> Model for BoundedText<N> {
-    ghost use Rattle.std.specs.Prelude.{List, ℕ, take, ◌≤◌};
+// Bytes of a text.
+pub type BoundedText<const N: usize> = Bounded<u8, N>;
 
-    ghost Value = { List ℕ };
+impl<T, const N: usize> Model for Bounded<T, N> {
+    ghost use Rattle.std.specs.Prelude.{List, take, ◌≤◌};
 
-    ghost view = { λ t. take t.len t.bytes };
+    ghost Value = { List T };
+
+    ghost view = { λ t. take t.len t.items };
 
     ghost invariant = { λ t. t.len ≤ N };
 }
 
-impl<const N: usize> BoundedText<N> {
+impl<T: Copy + Default, const N: usize> Bounded<T, N> {
     pub fn new() -> Self
         ensures { result ≡ [] }
     {
-        BoundedText {
-            bytes: [0; N],
+        Bounded {
+            items: [T::default(); N],
             len: 0,
         }
     }
 
-    // What is written.
-    pub fn as_slice(&self) -> &[u8]
+    // What is stored.
+    pub fn as_slice(&self) -> &[T]
         ensures value { result.now ≡ self.now }
         ensures within { length result.now ≤ N }
     {
-        &self.bytes[..self.len]
+        &self.items[..self.len]
     }
 
-    // One byte.
-    pub fn put(&mut self, b: u8)
-        ensures { self.new ≡ take N (self.old ++ b ∷ []) }
+    // One item.
+    pub fn put(&mut self, x: T)
+        ensures { self.new ≡ take N (self.old ++ x ∷ []) }
     {
         if self.len < N {
-            self.bytes[self.len] = b;
+            self.items[self.len] = x;
             self.len += 1;
         }
     }
 
-    // All bytes of some words.
-    pub fn put_all(&mut self, words: &[u8])
+    // All of some items.
+    pub fn put_all(&mut self, words: &[T])
         ensures { self.new ≡ take N (self.old ++ words.now) }
     {
         let end = self.len + words.len().min(N - self.len);
-        let bytes = &mut self.bytes[..];
-        bytes[self.len..end].copy_from_slice(&words[..end - self.len]);
+        let items = &mut self.items[..];
+        items[self.len..end].copy_from_slice(&words[..end - self.len]);
         self.len = end;
     }
+}
 
+impl<const N: usize> Bounded<u8, N> {
     // n times the same byte.
     pub fn repeat(&mut self, b: u8, n: usize)
         ensures { self.new ≡ take N (self.old ++ replicate n b) }
     {
         let end = self.len + n.min(N - self.len);
-        let bytes = &mut self.bytes[..];
+        let bytes = &mut self.items[..];
         bytes[self.len..end].fill(b);
         self.len = end;
     }
@@ -76,7 +82,7 @@ impl<const N: usize> BoundedText<N> {
         requires { k < length self.old }
         ensures { self.new ≡ set self.old k b }
     {
-        self.bytes[k] = b;
+        self.items[k] = b;
     }
 
     // n times a byte at a place; what stands behind it goes on.
@@ -87,7 +93,7 @@ impl<const N: usize> BoundedText<N> {
     {
         let end = self.len + n.min(N - self.len);
         let m = n.min(end - k);
-        let bytes = &mut self.bytes[..];
+        let bytes = &mut self.items[..];
         bytes[k..end].rotate_right(m);
         bytes[k..k + m].fill(b);
         self.len = end;

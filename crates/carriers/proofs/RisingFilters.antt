@@ -6,7 +6,7 @@ use Prim.Native.Nat.{ℕ, zero, suc, ◌+◌, ◌<◌, ◌≤◌}
 use native.Mathlib.Decide.{dec_lt}
 use native.Mathlib.Omega.{arith}
 use Rattle.lexical.specs.Lists.{filter, upward}
-use Rattle.meaning.proofs.LexicalBooleanTests.{clash}
+use borrow.Author.Clash.{clash}
 
 -- the n values of f from k on: rising, all of them among those of the `len` numbers from `lo` on that pass, and each of those among them
 pub record Lists (p : ℕ → Bool) (lo len : ℕ) (f : ℕ → ℕ) (k n : ℕ) : Type 0 where
@@ -54,7 +54,7 @@ module _ (p : ℕ → Bool) (f : ℕ → ℕ) where
           let t : (lo ≤ f i) × (f i < lo + suc len) × (p (f i) ≡ true) = l.inside i a b in
           elim (dec_lt lo (f i)) [
             | yes g ↦ (g, omega arith, t.2)
-            | no g ↦ (let z : f i ≡ lo = omega arith in absurd (clash t.2 (ap p z ∙ e)))
+            | no g ↦ (let z : f i ≡ lo = omega arith in clash _ t.2 (ap p z ∙ e))
           ]
 
   picked : (b : Bool) (x : ℕ) (l t : List ℕ) → (b ≡ true → x ∷ l ≡ t) → (b ≡ false → l ≡ t) → elim b [ true ↦ x ∷ l | false ↦ l ] ≡ t

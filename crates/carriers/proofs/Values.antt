@@ -77,7 +77,7 @@ values-rise (pairs_in partial g h) i j l u =
 values-rise (pairs_in total g h) i j l u =
     lt-ltb (total_mask (size_of g) (size_of h) i) (total_mask (size_of g) (size_of h) j) ((total-lists (size_of g) (size_of h) (zero-lt-suc _)).rising i j (omega arith) l (omega arith))
 
-not_less : (z : ℤ) → lt_z z z ≡ false
+pub not_less : (z : ℤ) → lt_z z z ≡ false
 not_less (pos n) = le-ltb n n (omega arith)
 not_less (negsuc n) = le-ltb n n (omega arith)
 

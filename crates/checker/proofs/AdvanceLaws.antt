@@ -1,13 +1,15 @@
 -- Advance: what is asked of the search, and what its answer says of the call. Assumes nothing.
 use mathlib.Core.Path.{◌≡◌, refl, sym, ap, ap₂, ◌∙◌, subst}
 use Rattle.std.specs.Prelude.{Option, None, Some, is_some, unwrap_or, min}
-use mathlib.Core.Bool.{Bool, true, false, cond, ◌||◌}
+use mathlib.Core.Bool.{Bool, true, false, cond, ◌&&◌, ◌||◌}
 use mathlib.Core.List.{List, []}
 use Prim.Native.Nat.{ℕ, suc, ◌+◌, ◌-◌, ◌<◌, ◌≤◌, ◌^◌}
 use native.Mathlib.Omega.{arith}
-use lib.Dec.{eqb, ltb}
+use native.Mathlib.Decide.{dec_lt}
+use lib.Dec.{eqb, leb, ltb}
 use lib.ListN.{length, take, drop}
-use borrow.Author.Tests.{ne_eqb, lt-ltb, le-ltb}
+use borrow.Author.Tests.{eq-eqb, ne_eqb, lt-ltb, le-ltb}
+use Rattle.lexical.proofs.RangeTests.{inside_range, outside_range}
 use Rattle.refusals.specs.Refusals.{number_of, advance_range}
 use Rattle.obligations.specs.Subjects.{Subject, subject_of}
 use Rattle.obligations.specs.Order.{Check, initialises, checks, total, Look, look}
@@ -18,29 +20,29 @@ use Rattle.obligations.proofs.Advances.{next-length}
 use Rattle.parts.specs.SearchPromises.{came_to, SearchAsked, SearchAnswers}
 use Rattle.parts.proofs.Stops.{looks-at, stops_low}
 use Rattle.parts.proofs.ReadingSizes.{reading_small}
-use Rattle.held_checks.specs.HeldBytes.{bytes_of, held_text, held_by}
+use Rattle.held_checks.specs.HeldBytes.{bytes_of, held_text, verdict_marked, held_by}
 use Rattle.held_checks.specs.Answers.{refused, looked}
 use Rattle.held_checks.specs.CallPromises.{Responds}
 use Rattle.held_checks.specs.StepPromises.{place_after, mark_after}
 use Rattle.held_checks.specs.BytePromises.{Turned}
 use Rattle.checker.specs.OpenPromises.{Opened}
-use Rattle.checker.proofs.MarkLaws.{fits-unfinished, marked-unfinished, mark-is}
+use Rattle.checker.proofs.MarkLaws.{fits-unfinished, mark-is}
 use Rattle.checker.proofs.CallLaws.{responds, refuses, held-as}
 
 -- "Advance by 0 or over 1,000,000,000.", and what else it comes to
-advancing-not : (σ : Subject) (p n : ℕ) → (eqb n 0 || ltb 1000000000 n) ≡ true → advancing σ p n ≡ outcome (calls.refused advance_range) (holding σ p unfinished) []
+advancing-as : (σ : Subject) (p n : ℕ) {t : Bool} → (eqb n 0 || ltb 1000000000 n) ≡ t
+    → advancing σ p n ≡ cond t (outcome (calls.refused advance_range) (holding σ p unfinished) []) (advanced σ p (look σ (take n (drop p (checks σ)))))
 unfolding advancing
-advancing-not σ p n e = ap (λ (t : Bool). cond t (outcome (calls.refused advance_range) (holding σ p unfinished) []) (advanced σ p (look σ (take n (drop p (checks σ)))))) e
+advancing-as σ p n e = ap (λ (t : Bool). cond t (outcome (calls.refused advance_range) (holding σ p unfinished) []) (advanced σ p (look σ (take n (drop p (checks σ)))))) e
 
-advancing-by : (σ : Subject) (p n : ℕ) → (eqb n 0 || ltb 1000000000 n) ≡ false → advancing σ p n ≡ advanced σ p (look σ (take n (drop p (checks σ))))
-unfolding advancing
-advancing-by σ p n e = ap (λ (t : Bool). cond t (outcome (calls.refused advance_range) (holding σ p unfinished) []) (advanced σ p (look σ (take n (drop p (checks σ)))))) e
+in-range : (n : ℕ) → (leb 1 n && leb n 1000000000) ≡ true → (eqb n 0 || ltb 1000000000 n) ≡ false
+in-range n h = let i = inside_range {x = n} {low = 1} {high = 1000000000} h in ap₂ ◌||◌ (ne_eqb n 0 (λ e. absurd (omega (arith, i.0)))) (le-ltb 1000000000 n i.1)
 
-in-range : (n : ℕ) → (n ≡ 0 → ⊥) → n ≤ 1000000000 → (eqb n 0 || ltb 1000000000 n) ≡ false
-in-range n z h = ap₂ ◌||◌ (ne_eqb n 0 z) (le-ltb 1000000000 n h)
-
-over-range : (n : ℕ) → 1000000000 < n → (eqb n 0 || ltb 1000000000 n) ≡ true
-over-range n h = ap₂ ◌||◌ (ne_eqb n 0 (λ e. absurd (omega arith))) (lt-ltb 1000000000 n h)
+over-range : (n : ℕ) → (leb 1 n && leb n 1000000000) ≡ false → (eqb n 0 || ltb 1000000000 n) ≡ true
+over-range n h = elim (dec_lt 0 n) [
+  | yes l ↦ ap₂ ◌||◌ (ne_eqb n 0 (λ e. absurd (omega arith))) (lt-ltb 1000000000 n (outside_range {x = n} {low = 1} {high = 1000000000} h l))
+  | no l ↦ ap (λ (b : Bool). b || ltb 1000000000 n) (eq-eqb n 0 (omega arith))
+]
 
 -- a look from one place to another
 abbrev look-to : (p at : ℕ) → Bool → Look
@@ -76,22 +78,16 @@ advanced-is σ p at place failed h e =
     let c : cond failed (suc (at - p)) (at - p) ≡ place - p = omega (arith, s) in
     ap₂ (λ (m k : ℕ). outcome (calls.looked m) (holding σ k (verdict_at σ k failed)) []) c s
 
-module _ {b table rows firsts groups labels : List ℕ} {mark place operations all : ℕ} (o : Opened b table rows firsts groups labels mark place operations all) (one : mark ≡ 1) where
+module _ {b text table rows firsts groups labels : List ℕ} {mark place operations all : ℕ} (o : Opened b text table rows firsts groups labels mark place operations all) (one : mark ≡ 1) where
   abbrev σ : Subject
   σ = subject_of o.dossier
 
   is-advancing : (n : ℕ) → respond (held_by b) (advance n) ≡ advancing σ place n
-  unfolding respond
-  is-advancing n = ap (λ (h : Held). respond h (advance n)) (held-as o (marked-unfinished σ place one))
+  unfolding respond verdict_marked
+  is-advancing n = ap (λ (h : Held). respond h (advance n)) (held-as o one)
 
-  out_of_range : (n : ℕ) → (eqb n 0 || ltb 1000000000 n) ≡ true → Responds b (advance n) b [] (refused (number_of advance_range))
-  out_of_range n e = refuses advance_range (holding σ place unfinished) (is-advancing n ∙ advancing-not σ place n e) refl refl
-
-  pub advance-none : (n : ℕ) → n ≡ 0 → Responds b (advance n) b [] (refused (number_of advance_range))
-  advance-none n e = out_of_range n (ap (λ (k : ℕ). eqb k 0 || ltb 1000000000 k) e)
-
-  pub advance-over : (n : ℕ) → 1000000000 < n → Responds b (advance n) b [] (refused (number_of advance_range))
-  advance-over n h = out_of_range n (over-range n h)
+  pub advance-outside : (n : ℕ) → (leb 1 n && leb n 1000000000) ≡ false → Responds b (advance n) b [] (refused (number_of advance_range))
+  advance-outside n h = refuses advance_range (holding σ place unfinished) (is-advancing n ∙ advancing-as σ place n (over-range n h)) refl refl
 
   place-low : place < total σ
   place-low = omega (arith, o.all_is, fits-unfinished all place mark o.fits one)
@@ -103,11 +99,11 @@ module _ {b table rows firsts groups labels : List ℕ} {mark place operations a
   pub place-small : place < 2 ^ 53
   place-small = omega (arith, place-low, reading_small o.arrays)
 
-  module _ {n at end : ℕ} {failing : Option ℕ} {failed : Bool} (positive : n ≡ 0 → ⊥) (low : n ≤ 1000000000) (is : end ≡ place + n) (w : SearchAnswers table rows firsts groups operations place end failing)
+  module _ (n : ℕ) {at end : ℕ} {failing : Option ℕ} {failed : Bool} (inside : (leb 1 n && leb n 1000000000) ≡ true) (is : end ≡ place + n) (w : SearchAnswers table rows firsts groups operations place end failing)
       (stop : at ≡ came_to end all failing) (came : is_some failing ≡ failed) where
     -- the search stops no earlier than where it began
     pub looked-least : place ≤ at
-    looked-least = stops_low failing w (omega arith) (omega (arith, o.all_is, place-low)) stop
+    looked-least = stops_low failing w (omega (arith, (inside_range {x = n} {low = 1} {high = 1000000000} inside).0)) (omega (arith, o.all_is, place-low)) stop
 
     looks : look σ (take n (drop place (checks σ))) ≡ record { count = cond failed (suc (at - place)) (at - place); failed = failed }
     looks =
@@ -127,7 +123,7 @@ module _ {b table rows firsts groups labels : List ℕ} {mark place operations a
     advance-looked m e =
         let next : ℕ = place_after failed at in
         responds (outcome (calls.looked (next - place)) (holding σ next (verdict_at σ next failed)) [])
-        (is-advancing n ∙ advancing-by σ place n (in-range n positive low) ∙ ap (advanced σ place) looks ∙ advanced-is σ place at next failed looked-least refl)
+        (is-advancing n ∙ advancing-as σ place n (in-range n inside) ∙ ap (advanced σ place) looks ∙ advanced-is σ place at next failed looked-least refl)
         (ap looked e)
         (m.is (held_text b) place mark o.short o.bytes ∙ ap (bytes_of (held_text b) next) (mark-is σ next o.all_is failed))
         refl

@@ -1,10 +1,8 @@
 -- What load, verdict and drop answer and leave, and the refusals of advance and witness, from what the bytes stand for. Assumes nothing.
 use mathlib.Core.Path.{◌≡◌, refl, sym, ap, ◌∙◌, subst}
-use mathlib.Core.Bool.{Bool, true, false}
+use mathlib.Core.Logic.{inl, inr}
 use mathlib.Core.List.{List, []}
 use Prim.Native.Nat.{ℕ, pred}
-use lib.Dec.{eqb}
-use borrow.Author.Tests.{eqb-true, eqb-false}
 use Rattle.refusals.specs.Refusals.{Refusal, number_of, nothing_held, something_held, check_finished, no_counterexample}
 use Rattle.obligations.specs.Subjects.{Subject, subject_of}
 use Rattle.obligations.specs.Order.{obligation_of}
@@ -28,8 +26,8 @@ use Rattle.held_checks.specs.CallPromises.{text_after, bytes_left, bytes_after, 
 use Rattle.held_checks.specs.StepPromises.{mark_byte}
 use Rattle.checker.specs.declared.Opened as opened
 use Rattle.checker.specs.OpenPromises.{Opened, Opens}
-use Rattle.checker.proofs.OpenLaws.{TextHeld}
-use Rattle.checker.proofs.MarkLaws.{fits-accepted, marked-unfinished, marked-accepted, marked-refuted}
+use Rattle.text_readings.proofs.ReadTexts.{TextHeld}
+use Rattle.checker.proofs.MarkLaws.{one-of}
 
 -- what a call promises, from one equation of what it comes to
 module _ {b : List ℕ} {c : Call} {after lent : List ℕ} {a : Answer} where
@@ -80,7 +78,7 @@ pub drop-answers : (b : List ℕ) {after : List ℕ} → after ≡ none_held →
 drop-answers b e = responds (outcome calls.dropped nothing []) (drops (held_by b)) refl e refl
 
 -- something is held
-module _ {b table rows firsts groups labels : List ℕ} {mark place operations all : ℕ} (o : Opened b table rows firsts groups labels mark place operations all) where
+module _ {b text table rows firsts groups labels : List ℕ} {mark place operations all : ℕ} (o : Opened b text table rows firsts groups labels mark place operations all) where
   abbrev σ : Subject
   σ = subject_of o.dossier
 
@@ -88,59 +86,48 @@ module _ {b table rows firsts groups labels : List ℕ} {mark place operations a
   unfolding respond
   load-held t = refuses something_held (holding σ place (verdict_marked σ place mark)) (ap (λ (h : Held). respond h (load t)) o.holds) refl refl
 
-  -- what is held, by its verdict
-  pub held-as : {v : Verdict} → verdict_marked σ place mark ≡ v → held_by b ≡ holding σ place v
-  held-as e = o.holds ∙ ap (holding σ place) e
+  -- what is held, by its mark
+  pub held-as : {m : ℕ} → mark ≡ m → held_by b ≡ holding σ place (verdict_marked σ place m)
+  held-as e = o.holds ∙ ap (λ (m : ℕ). holding σ place (verdict_marked σ place m)) e
 
-  pub verdict-is : (v : Verdict) → verdict_marked σ place mark ≡ v → Responds b verdict b [] (verdict_is v)
+  pub verdict-as : {m : ℕ} → mark ≡ m → Responds b verdict b [] (verdict_is (verdict_marked σ place m))
   unfolding respond
-  verdict-is v e = responds (outcome (calls.verdict_is v) (holding σ place v) []) (ap (λ (h : Held). respond h verdict) (held-as e)) refl refl refl
-
-  verdict-unfinished : mark ≡ 1 → Responds b verdict b [] (verdict_is unfinished)
-  verdict-unfinished e = verdict-is unfinished (marked-unfinished σ place e)
-
-  verdict-accepted : mark ≡ 2 → Responds b verdict b [] (verdict_is accepted)
-  verdict-accepted e = verdict-is accepted (marked-accepted σ place e)
+  verdict-as {m} e = responds (outcome (calls.verdict_is (verdict_marked σ place m)) (holding σ place (verdict_marked σ place m)) []) (ap (λ (h : Held). respond h verdict) (held-as e)) refl refl refl
 
   -- a finished check is not advanced
   pub advance-finished : (n : ℕ) → (mark ≡ 1 → ⊥) → Responds b (advance n) b [] (refused (number_of check_finished))
-  unfolding respond
-  advance-finished n e = on (eqb mark 2) refl
-    where
-      on : (t : Bool) → eqb mark 2 ≡ t → Responds b (advance n) b [] (refused (number_of check_finished))
-      on true q = refuses check_finished (holding σ place accepted) (ap (λ (h : Held). respond h (advance n)) (held-as (marked-accepted σ place (eqb-true mark 2 q)))) refl refl
-      on false q =
-          refuses check_finished (holding σ place (refuted (obligation_of (check_at σ (pred place)))))
-          (ap (λ (h : Held). respond h (advance n)) (held-as (marked-refuted σ place e (eqb-false mark 2 q)))) refl refl
+  unfolding respond verdict_marked
+  advance-finished n f = elim (one-of all place mark o.fits) [
+    | inl e ↦ absurd (f e)
+    | inr (inl e) ↦ refuses check_finished (holding σ place accepted) (ap (λ (h : Held). respond h (advance n)) (held-as e)) refl refl
+    | inr (inr e) ↦ refuses check_finished (holding σ place (refuted (obligation_of (check_at σ (pred place))))) (ap (λ (h : Held). respond h (advance n)) (held-as e)) refl refl
+  ]
 
   -- no counterexample
   pub witness-none : (l : List ℕ) → (mark ≡ 3 → ⊥) → Responds b (witness l) b l (refused (number_of no_counterexample))
-  unfolding respond
-  witness-none l e = on (eqb mark 1) refl
-    where
-      on : (t : Bool) → eqb mark 1 ≡ t → Responds b (witness l) b l (refused (number_of no_counterexample))
-      on true q = refuses no_counterexample (holding σ place unfinished) (ap (λ (h : Held). respond h (witness l)) (held-as (marked-unfinished σ place (eqb-true mark 1 q)))) refl refl
-      on false q =
-          refuses no_counterexample (holding σ place accepted)
-          (ap (λ (h : Held). respond h (witness l)) (held-as (marked-accepted σ place (fits-accepted all place mark o.fits (eqb-false mark 1 q) e)))) refl refl
+  unfolding respond verdict_marked
+  witness-none l f = elim (one-of all place mark o.fits) [
+    | inl e ↦ refuses no_counterexample (holding σ place unfinished) (ap (λ (h : Held). respond h (witness l)) (held-as e)) refl refl
+    | inr (inl e) ↦ refuses no_counterexample (holding σ place accepted) (ap (λ (h : Held). respond h (witness l)) (held-as e)) refl refl
+    | inr (inr e) ↦ absurd (f e)
+  ]
 
   -- the verdict of a mark that speaks of no obligation
   pub verdict-told : (v : code.Verdict) → (mark ≡ 1 → verdict_of v ≡ unfinished) × (mark ≡ 2 → verdict_of v ≡ accepted) × (mark ≡ 3 → ⊥) → Responds b verdict b [] (verdict_is (verdict_of v))
-  verdict-told v t = some (eqb mark 1) refl
-    where
-      some : (c : Bool) → eqb mark 1 ≡ c → Responds b verdict b [] (verdict_is (verdict_of v))
-      some true q = let e = eqb-true mark 1 q in subst (λ (k : Verdict). Responds b verdict b [] (verdict_is k)) (sym (t.0 e)) (verdict-unfinished e)
-      some false q =
-          let e = fits-accepted all place mark o.fits (eqb-false mark 1 q) t.2 in
-          subst (λ (k : Verdict). Responds b verdict b [] (verdict_is k)) (sym (t.1 e)) (verdict-accepted e)
+  unfolding verdict_marked
+  verdict-told v t = elim (one-of all place mark o.fits) [
+    | inl e ↦ subst (λ (k : Verdict). Responds b verdict b [] (verdict_is k)) (sym (t.0 e)) (verdict-as e)
+    | inr (inl e) ↦ subst (λ (k : Verdict). Responds b verdict b [] (verdict_is k)) (sym (t.1 e)) (verdict-as e)
+    | inr (inr e) ↦ absurd (t.2 e)
+  ]
 
 -- what the bytes were opened as, by what `ok_or` makes of it; and where nothing is held, the refusal of it
 module _ {b table rows firsts groups labels : List ℕ} {r : Option opened.Opened} {x : Result opened.Opened name.Refusal} (h : Opens b table rows firsts groups labels r) (e : r ≡ result_ok x) where
-  pub opened-as : {o : opened.Opened} → x ≡ Ok o → Opened b table rows firsts groups labels (mark_byte o.mark) o.place o.operations o.all
-  opened-as {o} f = h.some o (e ∙ ap result_ok f)
+  pub opened-as : {o : opened.Opened} → x ≡ Ok o → Opened b o.text.now table rows firsts groups labels (mark_byte o.mark) o.place o.operations o.all
+  opened-as f = (subst (Opens b table rows firsts groups labels) (e ∙ ap result_ok f) h).answer
 
   pub opened-not : {k : name.Refusal} → x ≡ Err k → held_by b ≡ nothing
-  opened-not f = h.none (e ∙ ap result_ok f)
+  opened-not f = (subst (Opens b table rows firsts groups labels) (e ∙ ap result_ok f) h).answer
 
 abbrev refusal_or : name.Refusal → Result opened.Opened name.Refusal → name.Refusal
 refusal_or n (Ok o) = n
@@ -155,6 +142,6 @@ refused-so None {k} e = ap (refusal_or k) e
 refused-so (Some o) {k} e = absurd (subst IsRefused e tt)
 
 pub refused-as : {A : Type 0} (r : Option opened.Opened) {x : Result opened.Opened name.Refusal} {k n : name.Refusal} (y : Result A name.Refusal) → IsErrAnd y (λ (l : name.Refusal). l ≡ k) → x ≡ Err k → x ≡ ok_or r n
-    → Err n ≡ y
+    → y ≡ Err n
 refused-as r (Ok a) f e g = absurd f
-refused-as r (Err l) f e g = sym (ap Err (f ∙ refused-so r (sym e ∙ g)))
+refused-as r (Err l) f e g = ap Err (f ∙ refused-so r (sym e ∙ g))

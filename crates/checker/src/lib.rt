@@ -1,16 +1,13 @@
 // The five calls on a held check kept in lent bytes: load, advance, verdict, witness, drop. Each reads the held text again.
 // Stack: 1,536 KiB are enough for every text and every call. The arrays of a reading stand there, and the walks over nodes go as deep as a chain of operators
 // is long. The figure is measured, on the texts that need the most (tests/stack), and not proved.
-// Form 5: that the bytes are laid is asked of three inner functions. A struct of the bytes with that as its invariant could be made only in `open_bytes`, which tests it, and would be
-// handed on to `put_held` in `Opened`, beside the bytes that the calls have.
 #![tactic(auto)]
 
-ghost use Rattle.std.specs.Prelude.{◌≡◌, [], true};
+ghost use Rattle.std.specs.Prelude.{◌≡◌, [], true, false, MatchOption};
 ghost use Rattle.obligations.specs.Calls as call;
 ghost use Rattle.held_checks.specs.HeldBytes.{held_text, is_laid};
 ghost use Rattle.held_checks.specs.Answers.{load_answer, advance_answer, verdict_answer, witness_answer, dropped};
 ghost use Rattle.held_checks.specs.CallPromises.{Responds};
-ghost use Rattle.text_readings.specs.TextPromises.{ReadsText};
 ghost use Rattle.checker.specs.OpenPromises.{Opens, LastAsked, LastWritten};
 
 use held_checks::{
@@ -21,47 +18,40 @@ use labels::Names;
 use part_places::{find, total};
 use parts::search;
 use pieces::Writer;
-use refusals::{Fault, Refusal};
+use refusals::Refusal;
 use text_readings::Arrays;
 use witnesses::{WITNESS, put_witness};
 
 // Number 15: the longest advance.
 const LONGEST: usize = 1000000000;
 
-// What is held: the mark, the place, how many operations and how many places there are.
+// What is held: the text, the mark, the place, how many operations and how many places there are.
 #[derive(Clone, Copy)]
-pub struct Opened {
+pub struct Opened<'a> {
+    pub text: &'a [u8],
     pub mark: Mark,
     pub place: usize,
     pub operations: usize,
     pub all: usize,
 }
 
-// The text in laid bytes.
-fn text_in(held: &[u8; HELD]) -> &[u8]
-    requires { is_laid held.now ≡ true }
-    ensures { result.now ≡ held_text held.now }
-{
-    let end = TEXT + length_in(held);
-    &held[TEXT..end]
-}
-
-// The held text is read into the arrays.
-fn open_text(held: &[u8; HELD], a: &mut Arrays) -> Result<usize, Fault>
-    requires { is_laid held.now ≡ true }
-    ensures { ReadsText (held_text held.now) a.new.table a.new.rows a.new.firsts a.new.groups a.new.labels result }
-{
-    a.read(text_in(held))
-}
-
-// What the bytes stand for, with the arrays of its text.
-fn open_bytes(held: &[u8; HELD], a: &mut Arrays) -> Option<Opened>
-    ensures { Opens held.now a.new.table a.new.rows a.new.firsts a.new.groups a.new.labels result }
+// The text in the bytes, where they are laid.
+fn text_in(held: &[u8; HELD]) -> Option<&[u8]>
+    ensures { MatchOption result (is_laid held.now ≡ false) (λ t. (is_laid held.now ≡ true) × (t.now ≡ held_text held.now)) }
 {
     if !laid(held) {
         return None;
     }
-    let operations = open_text(held, a).ok()?;
+    let end = TEXT + length_in(held);
+    Some(&held[TEXT..end])
+}
+
+// What the bytes stand for, with the arrays of its text.
+fn open_bytes<'a>(held: &'a [u8; HELD], a: &mut Arrays) -> Option<Opened<'a>>
+    ensures { Opens held.now a.new.table a.new.rows a.new.firsts a.new.groups a.new.labels result }
+{
+    let text = text_in(held)?;
+    let operations = a.read(text).ok()?;
     let all = total(&a.dossier(operations));
     let place = place_in(held);
     let mark = mark_in(held)?;
@@ -69,6 +59,7 @@ fn open_bytes(held: &[u8; HELD], a: &mut Arrays) -> Option<Opened>
         return None;
     }
     Some(Opened {
+        text,
         mark,
         place,
         operations,
@@ -81,8 +72,7 @@ pub fn load(text: &[u8], held: &mut [u8; HELD]) -> Result<(), LoadRefusal>
     ensures { Responds held.old (call.load text.now) held.new [] (load_answer result) }
 {
     let mut a = Arrays::new();
-    let o = open_bytes(held, &mut a);
-    if o.is_some() {
+    if open_bytes(held, &mut a).is_some() {
         return Err(LoadRefusal::SomethingHeld);
     }
     a.read(text)?;
@@ -99,13 +89,14 @@ pub fn advance(n: usize, held: &mut [u8; HELD]) -> Result<usize, Refusal>
     if o.mark != Mark::Unfinished {
         return Err(Refusal::CheckFinished);
     }
-    if n == 0 || LONGEST < n {
+    if !(1..=LONGEST).contains(&n) {
         return Err(Refusal::AdvanceRange);
     }
+    let (from, all) = (o.place, o.all);
     let d = a.dossier(o.operations);
-    let end = o.place + n;
-    let failing = search(&d, o.place, end);
-    Ok(come_to(held, o.place, o.all, failing, end.min(o.all)))
+    let end = from + n;
+    let failing = search(&d, from, end);
+    Ok(come_to(held, from, all, failing, end.min(all)))
 }
 
 // The verdict so far.
@@ -123,15 +114,14 @@ pub fn verdict(held: &[u8; HELD]) -> Result<Verdict, Refusal>
 }
 
 // The lines of the binding before the place of a held text, in bytes of their own.
-fn put_held(held: &[u8; HELD], a: &Arrays, o: Opened, out: &mut [u8; WITNESS]) -> usize
-    requires held_value { is_laid held.now ≡ true }
-    requires last_asked { LastAsked (held_text held.now) a.now.labels a.now.table a.now.groups o.operations o.place }
-    ensures { LastWritten (held_text held.now) a.now.labels a.now.table a.now.groups o.operations o.place out.new result }
+fn put_last(a: &Arrays, o: Opened<'_>, out: &mut [u8; WITNESS]) -> usize
+    requires { LastAsked o.text.now a.now.labels a.now.table a.now.groups o.operations o.place }
+    ensures { LastWritten o.entry.text.now a.now.labels a.now.table a.now.groups o.entry.operations o.entry.place out.new result }
 {
     let d = a.dossier(o.operations);
     let f = find(&d, o.place - 1);
     let names = Names {
-        text: text_in(held),
+        text: o.text,
         labels: &a.labels,
     };
     let mut w = Writer { out, at: 0 };
@@ -149,7 +139,7 @@ pub fn witness(held: &[u8; HELD], lent: &mut [u8]) -> Result<usize, Refusal>
         return Err(Refusal::NoCounterexample);
     }
     let mut out = [0u8; WITNESS];
-    let n = put_held(held, &a, o, &mut out);
+    let n = put_last(&a, o, &mut out);
     if lent.len() < n {
         return Err(Refusal::ShortBytes);
     }

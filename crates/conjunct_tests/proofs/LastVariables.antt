@@ -4,14 +4,12 @@ use mathlib.Core.Bool.{Bool, ◌&&◌, cond}
 use mathlib.Core.Logic.{inl, inr}
 use mathlib.Core.List.{List, [], ◌∷◌}
 use Prim.Native.Nat.{ℕ, ◌+◌, ◌-◌, ◌≤◌, ◌<◌, max}
+use native.Mathlib.Nat.{le-max_left}
 use native.Mathlib.Omega.{arith}
 use lib.Dec.{leb, ltb}
 use borrow.Author.Tests.{le-leb, lt-ltb}
 use Rattle.evaluation.specs.MeaningBindings.{Among}
 use Rattle.search_groups.specs.Conjuncts.{last_in}
-
-max-left : (a b : ℕ) → a ≤ max a b
-max-left a b = omega arith
 
 max-right : (a b c : ℕ) → c ≤ b → c ≤ max a b
 max-right a b c h = omega arith
@@ -25,7 +23,7 @@ unfolding Among last_in
 last-in base n s [] m h l = absurd m
 last-in base n s (t ∷ ss) (inl e) h l =
     subst (λ (r : ℕ). s - base + 1 ≤ last_in base n (r ∷ ss)) e
-    (subst (λ (k : ℕ). s - base + 1 ≤ max k (last_in base n ss)) (sym (counted base n s h l)) (max-left (s - base + 1) (last_in base n ss)))
+    (subst (λ (k : ℕ). s - base + 1 ≤ max k (last_in base n ss)) (sym (counted base n s h l)) (le-max_left (s - base + 1) (last_in base n ss)))
 last-in base n s (t ∷ ss) (inr m) h l =
     max-right (cond (leb base t && ltb t (base + n)) (t - base + 1) 0) (last_in base n ss) (s - base + 1) (last-in base n s ss m h l)
 

@@ -4,7 +4,7 @@ use mathlib.Core.Path.{◌≡◌, refl, sym, ap, ◌∙◌, subst}
 use mathlib.Core.Bool.{Bool, true, false}
 use mathlib.Core.Logic.{◌⊎◌, inl, inr}
 use mathlib.Core.List.{List, [], ◌∷◌, ◌++◌}
-use mathlib.Core.Option.{Option, none, some}
+use mathlib.Core.Option.{Option, some}
 use Prim.Native.Nat.{ℕ, ◌+◌, ◌^◌}
 use lib.ListN.{get_or}
 use lib.IntN.{ℤ, pos, ◌+ℤ◌, ◌-ℤ◌, nat_abs}
@@ -24,12 +24,13 @@ use Rattle.evaluation.proofs.MeaningMembers.{among-left, among-right, among-appe
 use Rattle.evaluation.proofs.MeaningDistinct.{every_map}
 use Rattle.evaluation.proofs.MeaningFrame.{frame-pred}
 use Rattle.search_groups.specs.TableNodesTableByNumber.{next_slot}
-use Rattle.evaluation.specs.TablePlacesResolvedTable.{Slots}
+use Rattle.evaluation.specs.TablePlacesResolvedTable.{Slots, slot_of}
 use Rattle.search_groups.specs.Conjuncts.{used_term, used_items, used_pairs, used_pred}
 use Rattle.evaluation.specs.EvaluationByNumber.{Values}
 use Rattle.evaluation.specs.SlotValues.{Slotted, Held}
 use Rattle.conjunct_tests.specs.ConjunctTests.{Agree, agree_none, agree_more}
-use Rattle.search_groups.proofs.ScopePlaces.{slot_of, slot-here, slot-there}
+use Rattle.search_groups.proofs.ConjunctSlots.{list_of}
+use Rattle.search_groups.proofs.ScopePlaces.{slot-here, slot-there}
 
 -- ---- a name that is mentioned, and found among the slots, has its slot among those used
 
@@ -61,10 +62,6 @@ other_name x y (z ∷ ys) m = go (same_name (plain x) z) refl (other_name x y ys
     go : (t : Bool) → same_name (plain x) z ≡ t → (Among y (others x ys) → Other x y ys) → Other x y (z ∷ ys)
     go true e r = later (r (subst (Among y) (others-off x z ys e) m))
     go false e r = on e (subst (Among y) (others-on x z ys e) m) r
-
-abbrev list_of : Option (Name × ℕ) → List ℕ
-list_of none = []
-list_of (some w) = w.1 ∷ []
 
 module _ (y : Name) (w : Name × ℕ) where
   either : (xs zs : List Name) (u v : List ℕ) → (Among y xs → Among w.1 u) → (Among y zs → Among w.1 v) → Among y (xs ++ zs) → Among w.1 (u ++ v)

@@ -9,7 +9,7 @@ use form::node::NUMBERS;
 use lexical::bounds::SYMBOLS;
 use lexical::codes;
 use parser::parse;
-use symbol_spans::{Bracket, Symbols, bracket_of};
+use symbol_spans::{Bracket, SymbolArrays, Symbols, bracket_of};
 use text_places::{Span, is_blank, part};
 
 // The first and the last symbol of some nodes.
@@ -51,9 +51,10 @@ fn goes_on(kind: u8) -> bool {
 
 // On over the symbols that have no node.
 fn whole(y: &Symbols<'_>, s: usize) -> usize {
-    (s..SYMBOLS)
-        .find(|&k| !goes_on(y.kind(k.saturating_add(1))))
-        .unwrap_or(s.max(SYMBOLS))
+    let more = (s..SYMBOLS)
+        .take_while(|&k| goes_on(y.kind(k.saturating_add(1))))
+        .count();
+    s.saturating_add(more)
 }
 
 // The brackets that are wanting.
@@ -62,7 +63,7 @@ fn brackets_wanting(y: &Symbols<'_>, e: Ends) -> Wanting {
         before: 0,
         behind: 0,
     };
-    for k in e.first..e.last.saturating_add(1) {
+    for k in e.first..=e.last {
         match bracket_of(y.kind(k)) {
             Some(Bracket::Open) => w.behind = w.behind.saturating_add(1),
             Some(Bracket::Close) => match w.behind.checked_sub(1) {
@@ -103,10 +104,10 @@ fn closed(y: &Symbols<'_>, last: usize, n: usize) -> usize {
 
 // The bytes of a span without the blanks at its end.
 fn trimmed(text: &[u8], s: Span) -> Span {
-    let end = match part(text, s).iter().rposition(|b| !is_blank(*b)) {
-        Some(k) => s.from.saturating_add(k).saturating_add(1),
-        None => s.from,
-    };
+    let end = part(text, s)
+        .iter()
+        .rposition(|b| !is_blank(*b))
+        .map_or(s.from, |k| s.from.saturating_add(k).saturating_add(1));
     Span {
         from: s.from,
         to: end,
@@ -137,16 +138,8 @@ fn bytes_of_nodes(y: &Symbols<'_>, many: usize, nodes: &[u16]) -> Option<Span> {
 
 // The bytes of the conjunct whose nodes stand between two places; none for a text that is refused, and where there are no such nodes.
 pub fn bytes_of(text: &[u8], from: usize, end: usize) -> Option<Span> {
-    let mut kinds = [0u8; SYMBOLS];
-    let mut starts = [0u16; SYMBOLS];
-    let mut values = [0u16; SYMBOLS];
+    let mut a = SymbolArrays::new();
     let mut nodes = [0u16; NUMBERS];
-    let structure = parse(text, &mut kinds, &mut starts, &mut values, &mut nodes).ok()?;
-    let y = Symbols {
-        text,
-        kinds: &kinds,
-        starts: &starts,
-        values: &values,
-    };
-    bytes_of_nodes(&y, structure.symbols, nodes.get(from..end)?)
+    let structure = parse(text, &mut a.kinds, &mut a.starts, &mut a.values, &mut nodes).ok()?;
+    bytes_of_nodes(&a.symbols(text), structure.symbols, nodes.get(from..end)?)
 }

@@ -2,7 +2,7 @@
 use mathlib.Core.Path.{◌≡◌, refl, ap, ◌∙◌, sym, subst}
 use mathlib.Core.Bool.{Bool}
 use mathlib.Core.List.{List, [], ◌∷◌, ◌++◌}
-use mathlib.Core.Option.{Option, none, some}
+use mathlib.Core.Option.{none, some}
 use Prim.Native.Nat.{ℕ, suc, ◌+◌, ◌≤◌, ◌<◌}
 use native.Mathlib.Omega.{arith}
 use native.Mathlib.Numerals.{add-one}
@@ -11,24 +11,24 @@ use lib.ListN.{length, get_or}
 use borrow.Author.Tests.{le-ltb}
 use Rattle.lexical.specs.Kinds as kind
 use Rattle.lexical.specs.Kinds.{Kind, code_of, is, lookup}
-use Rattle.refusals.specs.Refusals.{Refusal, many_declared}
+use Rattle.refusals.specs.Refusals.{many_declared}
 use Rattle.form.specs.Written.{Mark, unmarked, a_given, an_element, a_variable, an_input, an_output, an_operation}
 use Rattle.form.specs.Form.{settled, excess, refuse}
 use Rattle.form.specs.Computed.{compute_form}
 use Rattle.form.specs.Machine.{Item, exact, a_name, an_end, a_type, a_type_rest, a_dossier, a_declared, some_entries, some_op_entries, some_bodies, some_elements, some_declarations, some_operations, some_parameters}
-use Rattle.form.specs.Machine.{Act, take, skip, stuck, then, act, on_name, go, halt, does, step, ends, unless_over}
-use Rattle.form_nodes.specs.FormPromises.{run_at, Reads, names}
-use Rattle.declarations.specs.DossierPromises.{Few, few, over, Titled, titled, nameless, too_many, EntriesOf, of_givens, of_operations, a_typed, a_condition_to, two_states, three_conditions, Arrows, arrows, arrow_class, directions, direction_class, counted_by, inputs_by, outputs_by, more_by, mark_by}
+use Rattle.form.specs.Machine.{Act, take, skip, stuck, then, act, on_name, go, does, step, ends}
+use Rattle.form_nodes.specs.FormPromises.{Reads, names}
+use Rattle.declarations.specs.DossierPromises.{Few, few, over, Titled, titled, nameless, too_many, EntriesOf, of_givens, of_operations, a_typed, a_condition_to, two_states, three_conditions, Arrows, arrows, arrow_class, directions, direction_class, counted_by, inputs_by, outputs_by, more_by, mark_of}
 use Rattle.declarations.specs.declared.contents.Direction.{Direction}
 use Rattle.declarations.specs.declared.contents.Direction.TheVariants.{Input, Output}
 use Rattle.std.specs.Prelude as prelude
 use Rattle.std.specs.Prelude.{Result, Ok, Err, Some, None}
 use Rattle.declarations.specs.declared.contents.Taken.{Taken}
 use Rattle.refusals.specs.declared.Fault.{Fault}
-use Rattle.refusals.specs.declared.Refusal.TheVariants.{ManyDeclared}
 use Rattle.form_nodes.proofs.Classes.{lookup-miss, by-table-or}
-use Rattle.form_nodes.proofs.ReadParts.{only, Within, step-at, stops}
+use Rattle.form_nodes.proofs.ReadParts.{only, Within, refused, stops}
 use Rattle.form_nodes.proofs.RightSides.{inside}
+use Rattle.form_nodes.proofs.SameSteps.{declared-stops}
 use Rattle.form_nodes.proofs.ItemSteps.{by-act, exact-takes, exact-stops, lookup-mapped, either, naming, either-some}
 use Rattle.form.proofs.Table.{◌&◌}
 use Rattle.form.proofs.FewBoundNames.{over-limit}
@@ -69,26 +69,10 @@ pub entry-counts : {word limit : ℕ} {f : ℕ → Item} {ο : List Item} {x : �
 entry-counts of_givens = givens
 entry-counts of_operations = operations
 
--- a symbol is one too many
-pub crowded : {s : List ℕ} {at n : ℕ} {ι ο : List Item} (ρ : List Item → List Item) (x : Mark) → at < length s
-    → Within s at (λ k j v. settled k j v x ≡ some many_declared)
-    → ((κ : Kind) → code_of κ ≡ get_or s at 0 → (γ : List Item) → step (ι ++ γ) κ ≡ go x (ρ γ)) → Reads s at n ι ο (Err (record { place = at; refusal = ManyDeclared }))
-crowded {s} {at} {ι = ι} ρ x l f h =
-    record {
-      from = omega arith;
-      within = omega arith;
-      count = tt;
-      same = λ w q γ. step-at s at ι w q l (λ δ. go x (ρ δ)) h γ ∙ ap (λ (y : Option Refusal). unless_over y at (run_at w (suc at)) (ρ γ)) (f w q);
-    }
-
 -- a declared name
 pub declared-takes : (m : Mark) (γ : List Item) → step (a_declared m ∷ γ) kind.plain ≡ go m γ
 unfolding compute_form
 declared-takes m γ = refl
-
-pub declared-stops : (m : Mark) (κ : Kind) (γ : List Item) → (code_of κ ≡ 2 → ⊥) → step (a_declared m ∷ γ) κ ≡ halt
-unfolding act code_of
-declared-stops m κ γ f = by-act (a_declared m) γ κ stuck (lookup-miss ((kind.plain, take m []) ∷ []) stuck κ (f, tt))
 
 -- one more than k is within the limit; or it is one too many
 pub is-few : {p k l : ℕ} {u : Unit {0}} {r : Result Unit Fault} → r ≡ Ok u → Few p k l r → k < l
@@ -102,7 +86,7 @@ pub one-over : {s : List ℕ} {at n k limit : ℕ} {ι ο : List Item} {x : ℕ 
 one-over {s} {at} {n} {k} {limit} {ι} {ο} {x} ρ c l q h g = on (subst (λ (y : Result Unit Fault). Few at k limit y) q h)
   where
     on : {f : Fault} → Few at k limit (Err f) → Reads s at n ι ο (Err f)
-    on (over m) = crowded ρ (x (k + 1)) l (count-over s at (k + 1) c (omega arith)) g
+    on (over m) = refused {ρ = ρ} (x (k + 1)) l (count-over s at (k + 1) c (omega arith)) g
 
 -- a name that is declared, or none
 pub as-titled : {s : List ℕ} {at k l : ℕ} {r : Result Unit Fault} → get_or s at 0 ≡ 2 → Few at k l r → Titled s at k l r
@@ -123,7 +107,7 @@ not-titled {s} {at} {n} {k} {limit} {ο} {ρ} {x} c l q h = on (subst (λ (y : R
     on : {f : Fault} → Titled s at k limit (Err f) → Reads s at n (a_declared (x (k + 1)) ∷ ρ) ο (Err f)
     on (nameless g) = stops l (λ κ e γ. declared-stops (x (k + 1)) κ (ρ ++ γ) (λ y. g (sym e ∙ y))) (λ γ. refl)
     on (too_many g m) =
-        crowded (λ γ. ρ ++ γ) (x (k + 1)) (inside s at (omega arith)) (count-over s at (k + 1) c (omega arith)) (only _ kind.plain g (λ γ. declared-takes (x (k + 1)) (ρ ++ γ)))
+        refused {ρ = λ γ. ρ ++ γ} (x (k + 1)) (inside s at (omega arith)) (count-over s at (k + 1) c (omega arith)) (only _ kind.plain g (λ γ. declared-takes (x (k + 1)) (ρ ++ γ)))
 
 -- entries of the contents: one more, and what stands behind all
 pub entry-word : {word limit : ℕ} {f : ℕ → Item} {ο : List Item} {x : ℕ → Mark} → EntriesOf word limit f ο x → (k : ℕ) (κ : Kind) (γ : List Item) → code_of κ ≡ word
@@ -212,7 +196,7 @@ operations_behind k κ γ f = by-act (some_operations k) γ κ skip (lookup-miss
 
 -- parameters, by their direction
 pub parameter-takes : (i o : ℕ) (c : Direction) (κ : Kind) (γ : List Item) → lookup directions 0 κ ≡ direction_class (Some c)
-    → step (some_parameters i o ∷ γ) κ ≡ go (mark_by c i o) (a_typed ++ (some_parameters (inputs_by c i) (outputs_by c o) ∷ γ))
+    → step (some_parameters i o ∷ γ) κ ≡ go (mark_of c (counted_by c i o + 1)) (a_typed ++ (some_parameters (inputs_by c i) (outputs_by c o) ∷ γ))
 unfolding act step lookup is code_of
 parameter-takes i o Input κ γ e =
     by-table-or (λ m b. lookup directions 0 m ≡ 1 → does b γ (step γ m) ≡ go (an_input (i + 1)) (a_typed ++ (some_parameters (i + 1) o ∷ γ)))
@@ -236,13 +220,9 @@ parameters-behind i o κ γ e =
     ((λ q. absurd (omega (arith, q))) & (λ q. absurd (omega (arith, q))) & (λ q. refl) & tt)
     (λ m q. sym (exact-stops kind.ABSTRACT κ γ m.1.1.0)) e
 
-pub parameter-well : (s : List ℕ) (at : ℕ) (c : Direction) (i o : ℕ) → (counted_by c i o < 3) → Within s at (λ k j v. settled k j v (mark_by c i o) ≡ none)
-parameter-well s at Input i o h = count-well s at (i + 1) inputs (omega arith)
-parameter-well s at Output i o h = count-well s at (o + 1) outputs (omega arith)
-
-pub parameter-over : (s : List ℕ) (at : ℕ) (c : Direction) (i o : ℕ) → (3 ≤ counted_by c i o) → Within s at (λ k j v. settled k j v (mark_by c i o) ≡ some many_declared)
-parameter-over s at Input i o h = count-over s at (i + 1) inputs (omega arith)
-parameter-over s at Output i o h = count-over s at (o + 1) outputs (omega arith)
+pub direction-counts : (c : Direction) → Counts (mark_of c) 3
+direction-counts Input = inputs
+direction-counts Output = outputs
 
 -- types
 pub type-rest-step : (κ : Kind) (γ : List Item) {c : ℕ} → lookup arrows 0 κ ≡ c → step (a_type_rest ∷ γ) κ ≡ does (either (then (a_name ∷ [])) skip c) γ (step γ κ)

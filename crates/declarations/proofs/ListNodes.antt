@@ -8,7 +8,6 @@ use Rattle.form_nodes.specs.FormPromises.{Writes, Closes, Shown}
 use Rattle.form_nodes.specs.Derivations.{Part, Derives, Made, MadeAt, NameAt, name_code, some_entries, a_type, a_declaration, some_elements, some_givens, declares, a_given, More, MoreAt}
 use Rattle.declarations.specs.DossierPromises.{WordsAt, ContentsMade}
 use Rattle.std.specs.Prelude.{Ok, Err}
-use Rattle.form_nodes.specs.declared.Read.{Read}
 use Rattle.form_nodes.specs.FormPromises.{Answer}
 use Rattle.form_nodes.proofs.NodesOfParts.{from}
 use Rattle.form_nodes.proofs.FirstNodes.{then-written}
@@ -20,10 +19,6 @@ module _ {s ν : List ℕ} {x : Part} where
 
   pub made-node : {i j n m : ℕ} {a b y z : List ℕ} → Writes a n y b m → y ≡ z → Derives s ν x i j z → MadeAt s ν x i n a b j m
   made-node {n = n} {a = a} {z = z} p e d = record { nodes = z; derives = d; written = p.nodes ∙ ap (λ (l : List ℕ). take n a ++ l) e }
-
--- one symbol that was read
-pub closed : {s : List ℕ} {at k n : ℕ} {e : Read} {r : Answer} → r ≡ Ok e → Closes s at k n r → ((e.at ≡ at + 1) × (get_or s at 0 ≡ k)) × (e.count ≡ n)
-closed {s} {at} {k} {n} q h = subst (λ (z : Answer). Shown (λ (e : ℕ). (e ≡ at + 1) × (get_or s at 0 ≡ k)) n z) q h.shown
 
 -- a part that ends at a place known by other words
 to-place : {s ν : List ℕ} {x : Part} {i j k : ℕ} {u : List ℕ} → j ≡ k → Derives s ν x i j u → Derives s ν x i k u

@@ -144,7 +144,7 @@ pub record Formed (s ν a b : List ℕ) (r : Answer) : Type 0 where
   pub ended : Ended (length s) r
   pub made : Made s ν part.a_dossier 0 0 a b r
 
--- how many parameters of a direction there are, after i inputs and o outputs; how many inputs, and outputs, there are with one more; and its mark
+-- how many parameters of a direction there are, after i inputs and o outputs; how many inputs, and outputs, there are with one more; and the mark of the n-th
 abbrev pub counted_by : Direction → (i o : ℕ) → ℕ
 counted_by Input i o = i
 counted_by Output i o = o
@@ -160,6 +160,6 @@ outputs_by Output o = o + 1
 abbrev pub more_by : Direction → Taken → Taken
 more_by c t = record { inputs = inputs_by c t.inputs; outputs = outputs_by c t.outputs }
 
-abbrev pub mark_by : Direction → (i o : ℕ) → Mark
-mark_by Input i o = an_input (i + 1)
-mark_by Output i o = an_output (o + 1)
+abbrev pub mark_of : Direction → ℕ → Mark
+mark_of Input = an_input
+mark_of Output = an_output

@@ -1,7 +1,7 @@
 // The contents of a dossier, given sets and declarations: numbers 4 and 6 of document 01, and their nodes.
 // Form 5: a value of the symbols, the lent nodes and what is read, with `Room` as its invariant, would be changed by each function: one that refuses
 // would have to show the invariant of what it leaves half read, and a promise would name its fields before and after for what was read and the answer.
-ghost use Rattle.std.specs.Prelude.{◌≡◌, [], ◌∷◌, ◌++◌, ◌+◌, ◌*◌, ◌≤◌, ◌<◌, leb, length, get_or};
+ghost use Rattle.std.specs.Prelude.{◌≡◌, [], ◌∷◌, ◌++◌, ◌+◌, ◌*◌, ◌≤◌, ◌<◌, length, get_or};
 ghost use Rattle.lexical.specs.Kinds as kind;
 ghost use Rattle.form.specs.Written.{an_element, a_variable};
 ghost use Rattle.form.specs.Machine.{exact, a_declared, a_type, a_type_rest, a_dossier, some_bodies, some_elements, some_declarations, some_operations, some_parameters};
@@ -79,18 +79,18 @@ fn words(s: &[u8], from: Read) -> Result<Read, Fault>
     requires { from.at ≤ length s.now }
     ensures { Reads s.now from.at from.count five_words [] result × Shown (WordsAt s.now from.at) from.count result }
 {
-    let abstracts = close(s, from.at, codes::ABSTRACT, from.count)?;
-    let concretes = close(s, abstracts.at, codes::CONCRETE, abstracts.count)?;
-    let ainit = close(s, concretes.at, codes::AINIT, concretes.count)?;
-    let cinit = close(s, ainit.at, codes::CINIT, ainit.count)?;
-    close(s, cinit.at, codes::RETRIEVE, cinit.count)
+    let abstracts = close(s, from, codes::ABSTRACT)?;
+    let concretes = close(s, abstracts, codes::CONCRETE)?;
+    let ainit = close(s, concretes, codes::AINIT)?;
+    let cinit = close(s, ainit, codes::CINIT)?;
+    close(s, cinit, codes::RETRIEVE)
 }
 
 pub fn contents(y: &Symbols<'_>, code: &mut [u16]) -> Result<Read, Fault>
     requires { 4 * length y.now.kinds.now ≤ length code.old }
     ensures { Reads y.now.kinds.now 0 0 (a_dossier ∷ []) (some_bodies 0 ∷ []) result × ContentsMade y.now.kinds.now y.now.values.now code.new result }
 {
-    let word = close(y.kinds, 0, codes::CONTENTS, 0)?;
+    let word = close(y.kinds, Read { at: 0, count: 0 }, codes::CONTENTS)?;
     let sets = entries(
         y,
         word,
@@ -108,7 +108,7 @@ pub fn contents(y: &Symbols<'_>, code: &mut [u16]) -> Result<Read, Fault>
         bounds::OPERATIONS,
         code,
     )?;
-    close(y.kinds, operations.at, codes::END, operations.count)
+    close(y.kinds, operations, codes::END)
 }
 
 // The elements of a given set, one or more, up to its `end`.
@@ -146,12 +146,12 @@ fn given(y: &Symbols<'_>, from: Read, code: &mut [u16]) -> Result<Read, Fault>
         count,
     };
     let body = elements(y, titled, code)?;
-    close(y.kinds, body.at, codes::END, body.count)
+    close(y.kinds, body, codes::END)
 }
 
 // The bodies of given sets.
 // Form 2: `operations` of parser walks alike. One walk for both would take a trait of a word, a limit and a reader, and as ghost members the machine's item for
-// each count, the mark of a name, what is expected behind it and behind all, and the part, with laws of each: more than these nine lines twice.
+// each count, the mark of a name, what is expected behind it and behind all, and the part, with laws of each: more than these eight lines twice.
 // Form 3: where the next body stands, says the one that is read.
 pub fn givens(y: &Symbols<'_>, from: Read, code: &mut [u16]) -> Result<Read, Fault>
     requires { Room y.now.kinds.now code.old from.at from.count }
@@ -191,14 +191,7 @@ fn named(y: &Symbols<'_>, from: Read, code: &mut [u16]) -> Result<Read, Fault>
         return Ok(Read { at, count });
     };
     let to = at + 1;
-    let j = kind_at(y.kinds, to);
-    if !is_name(j) {
-        return Err(Fault {
-            place: to,
-            refusal: Refusal::NoDossier,
-        });
-    }
-    let second = name_number(y.kinds, y.values, to);
+    let second = y.name_at(to)?;
     let count = put(code, from.count, shape, from.at, x, second);
     Ok(Read { at: to + 1, count })
 }
@@ -210,14 +203,7 @@ fn type_form(y: &Symbols<'_>, from: Read, code: &mut [u16]) -> Result<Read, Faul
     let k = kind_at(y.kinds, from.at);
     if k == codes::POWER {
         let name = from.at + 1;
-        let j = kind_at(y.kinds, name);
-        if !is_name(j) {
-            return Err(Fault {
-                place: name,
-                refusal: Refusal::NoDossier,
-            });
-        }
-        let x = name_number(y.kinds, y.values, name);
+        let x = y.name_at(name)?;
         let count = put(code, from.count, shapes::POWER, from.at, x, 0);
         return Ok(Read {
             at: name + 1,
@@ -225,7 +211,7 @@ fn type_form(y: &Symbols<'_>, from: Read, code: &mut [u16]) -> Result<Read, Faul
         });
     }
     if !is_name(k) {
-        let ends = range(y, from.at, from.count)?;
+        let ends = range(y, from)?;
         let count = put_range(y.kinds, y.values, from.at, code, from.count);
         return Ok(Read { count, ..ends });
     }
@@ -238,10 +224,11 @@ fn declaration(y: &Symbols<'_>, from: Read, code: &mut [u16]) -> Result<Read, Fa
     ensures { Reads y.now.kinds.now (from.at + 1) (from.count + 4) a_typed [] result × Made y.now.kinds.now y.now.values.now a_declaration from.at from.count code.old code.new result }
 {
     let x = name_number(y.kinds, y.values, from.at);
-    let m = put(code, from.count, shapes::DECLARED, from.at, x, 0);
-    let colon = close(y.kinds, from.at + 1, codes::COLON, m)?;
+    let at = from.at + 1;
+    let count = put(code, from.count, shapes::DECLARED, from.at, x, 0);
+    let colon = close(y.kinds, Read { at, count }, codes::COLON)?;
     let typed = type_form(y, colon, code)?;
-    close(y.kinds, typed.at, codes::SEMICOLON, typed.count)
+    close(y.kinds, typed, codes::SEMICOLON)
 }
 
 // The declarations of a state, one or more, up to its `where`.
@@ -289,13 +276,13 @@ struct Taken {
 }
 
 impl Taken {
-    // Are there three of this direction?
-    fn full(self, c: Direction) -> bool
-        ensures { result ≡ leb 3 (counted_by c self.inputs self.outputs) }
+    // Is one more of this direction within the limit?
+    fn room(self, place: usize, c: Direction) -> Result<(), Fault>
+        ensures { Few place (counted_by c self.inputs self.outputs) 3 result }
     {
         match c {
-            Direction::Input => bounds::INPUTS <= self.inputs,
-            Direction::Output => bounds::OUTPUTS <= self.outputs,
+            Direction::Input => few(place, self.inputs, bounds::INPUTS),
+            Direction::Output => few(place, self.outputs, bounds::OUTPUTS),
         }
     }
 
@@ -329,12 +316,7 @@ pub fn parameters(y: &Symbols<'_>, from: Read, code: &mut [u16]) -> Result<Read,
         outputs: 0,
     };
     while let Some(c) = direction_of(kind_at(y.kinds, read.at)) {
-        if taken.full(c) {
-            return Err(Fault {
-                place: read.at,
-                refusal: Refusal::ManyDeclared,
-            });
-        }
+        taken.room(read.at, c)?;
         read = declaration(y, read, code)?;
         taken = taken.more(c);
     }

@@ -1,19 +1,20 @@
 -- Declarations by their nodes: what a declared type's node holds, and a walk over declarations.
 use mathlib.Core.Path.{◌≡◌, refl, ap, ap₂, sym, ◌∙◌, subst}
-use mathlib.Core.Bool.{Bool, true, false, cond}
+use mathlib.Core.Bool.{Bool, true, cond}
 use mathlib.Core.List.{List, [], ◌∷◌, ◌++◌, append-nil}
 use Prim.Native.Nat.{ℕ, ◌+◌, ◌-◌, ◌≤◌, ◌<◌}
 use native.Mathlib.Nat.{add-zero}
 use native.Mathlib.Omega.{arith}
-use lib.Dec.{eqb, leb}
+use lib.Dec.{eqb}
 use lib.ListN.{length, drop, get_or, set, length-drop, length-append}
 use lib.Seq.{get_or-drop, drop-drop, drop_at}
-use borrow.Author.Tests.{ne_eqb, leb-true}
+use borrow.Author.Tests.{ne_eqb}
 use Rattle.form.specs.Tree.{TypeForm, given_type, power_type, range_type, arrow_type, relation, partial, total}
 use Rattle.form.specs.Codes.{Numbering, node, name_number, end_number, end_width, arrow_number, type_codes, type_width}
-use Rattle.type_rules.specs.TypesByNumber.{Names, Sizes, entry, is_free, lesser, inside_key, is_given, element_of, set_of, pair_of, key, unless_key, range_fits, product_fits, over_key, domain_key}
+use Rattle.type_rules.specs.TypesByNumber.{Names, Sizes, entry, is_free, lesser, is_given, element_of, set_of, pair_of, key, unless_key, range_fits, product_fits, over_key, domain_key}
+use Rattle.type_rules.proofs.TypeNumbers.{inside-none, inside-some}
 use Rattle.declared_names.specs.NamesByNumber.{Typed, typed_codes, type_kind, type_key, shown, hidden, declared_key}
-use Rattle.declared_names.specs.PassPromises.{TypeKinded, TypeFaulted, pairs_key_at, typed_code, typed_key, DeclarationFaulted, Reached}
+use Rattle.declared_names.specs.PassPromises.{TypeKinded, TypeFaulted, pairs_key_at, typed_code, DeclarationFaulted, Reached}
 use Rattle.declared_names.proofs.NodePieces.{Ends, place, place-on, room, piece-is}
 
 -- what a node holds
@@ -148,22 +149,6 @@ pub over-both : (z : Sizes) (k l i m n r : ℕ) (p q fits : Bool) → p ≡ is_g
 unfolding over_key
 over-both z k l i m n r p q fits a b c d e f g h = rw (over_key, sym a ∙ b, sym c ∙ d, ← e, ← f, ← g) h
 
-pub over_first : (z : Sizes) (k l i : ℕ) (p : Bool) → p ≡ is_given k → p ≡ false → 0 ≡ over_key z k l i
-unfolding over_key
-over_first z k l i p a b = rw (over_key, sym a ∙ b)
-
-pub over-second : (z : Sizes) (k l i : ℕ) (p q : Bool) → p ≡ is_given k → p ≡ true → q ≡ is_given l → q ≡ false → 0 ≡ over_key z k l i
-unfolding over_key
-over-second z k l i p q a b c d = rw (over_key, sym a ∙ b, sym c ∙ d)
-
-pub given_above : (k : ℕ) (p : Bool) → p ≡ is_given k → p ≡ true → 8 ≤ k
-unfolding is_given
-given_above k p a b = go (leb 8 k) refl
-  where
-    go : (t : Bool) → leb 8 k ≡ t → 8 ≤ k
-    go true e = leb-true 8 k e
-    go false e = let w : false ≡ true = (rw e at (sym a ∙ b)) in let n : ◌≡◌ {A = ℕ} 0 1 = cc in omega arith
-
 -- a declaration has eight numbers; its type begins at the fourth
 pub typed-eight : (x : Typed) (i : ℕ) (ρ : Numbering) → length (typed_code i x ρ) ≡ 8
 typed-eight x i ρ = ap (λ (l : List ℕ). length (node 6 i (name_number ρ x.called) 0 ++ l)) (as-node x.type (i + 2) ρ)
@@ -267,12 +252,6 @@ showing s xs i T ρ = shown xs s T ρ
 abbrev pub hiding : ℕ → ℕ → List Typed → ℕ → Names → Numbering → Names
 hiding s k xs i T ρ = hidden xs s k T ρ
 
-pub inside-none : (a b : ℕ) → a ≡ 0 → inside_key a b ≡ b
-inside-none a b e = ap (λ (n : ℕ). inside_key n b) e
-
-pub inside-some : (a b : ℕ) → (a ≡ 0 → ⊥) → inside_key a b ≡ a
-inside-some a b n = rw (ne_eqb a 0 n)
-
 module _ (code : List ℕ) (at : ℕ) (T U : Names) where
   pub shown-on : (s : ℕ) → Reached code at s T U
       → (ρ : Numbering) (x : Typed) (xs : List Typed) (j : ℕ) (rest : List ℕ) → drop at code ≡ typed_code j x ρ ++ rest
@@ -291,7 +270,7 @@ module _ (code : List ℕ) (at : ℕ) (T U : Names) where
       → keyed z (x ∷ xs) j T ρ ≡ keyed z xs (j + 3 + type_width x.type) U ρ
   unfolding declared_key
   keyed-on z f p q h ρ x xs j rest e =
-      inside-none (typed_key x T ρ z j) _ (sym (p x j ρ rest e) ∙ q)
+      sym (inside-none (p x j ρ rest e) q)
       ∙ sym (ap (λ (t : Names). declared_key xs t ρ z (j + 3 + type_width x.type)) (h x j ρ rest e ∙ ap (λ (m : ℕ). set T m (type_kind x.type T ρ)) (add-zero (name_number ρ x.called))))
 
   pub keyed-stop : (z : Sizes) (f : ℕ) → DeclarationFaulted code at T z f → (f ≡ 0 → ⊥)
@@ -299,8 +278,7 @@ module _ (code : List ℕ) (at : ℕ) (T U : Names) where
       → keyed z (x ∷ xs) j T ρ ≡ f
   unfolding declared_key
   keyed-stop z f p q ρ x xs j rest e =
-      let d = p x j ρ rest e in
-      inside-some (typed_key x T ρ z j) (declared_key xs (set T (name_number ρ x.called) (type_kind x.type T ρ)) ρ z (j + 3 + type_width x.type)) (λ n. q (d ∙ n)) ∙ sym d
+      sym (inside-some _ (p x j ρ rest e) q)
 
 -- the number of a declaration's name
 pub number-in : (d : List ℕ) (a : ℕ) → a ≡ get_or d 1 0 → (x : Typed) (i : ℕ) (ρ : Numbering) (r : List ℕ) → d ≡ typed_code i x ρ ++ r → a ≡ name_number ρ x.called

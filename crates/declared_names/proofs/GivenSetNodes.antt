@@ -16,10 +16,11 @@ use Rattle.form.specs.Headings.{given_length}
 use Rattle.form.specs.Codes.{Numbering, node, number_of_name, element_codes, given_codes}
 use Rattle.static_rules.specs.Carriers.{size_of}
 use Rattle.type_rules.specs.TypesByNumber.{Names, Sizes, entry, is_free, key, unless_key, inside_key}
+use Rattle.type_rules.proofs.TypeNumbers.{inside-none, inside-some}
 use Rattle.declared_names.specs.NamesByNumber.{elements_key, elements_named, givens_key, givens_named}
 use Rattle.declared_names.specs.PassPromises.{Counted, GivenFaulted, GivenKind, SizeCounted, Fewer, GivenSeen}
 use Rattle.declared_names.proofs.NodePieces.{Ends, place, whole}
-use Rattle.declared_names.proofs.DeclarationNodes.{node-a, node-place, node-shape, inside-none, inside-some}
+use Rattle.declared_names.proofs.DeclarationNodes.{node-a, node-place, node-shape}
 
 -- what is left at a place, where g given sets have begun: elements of the last one, and further sets
 pub record Left (code : List ℕ) (at g : ℕ) (T : Names) (z : Sizes) (ρ : Numbering) (fault : ℕ) (names : Names) (target : List ℕ) : Type 0 where
@@ -68,12 +69,6 @@ pub given-begin : (code rest : List ℕ) (T : Names) (z : Sizes) → rest ≡ co
 given-begin code rest T z e =
     let none : length code - length code ≡ 0 = omega arith in
     subst (λ (l : List ℕ). Ends code l × GivenOn code (place code l) 0 T T z) (sym e) (whole code, subst (λ (n : ℕ). GivenOn code n 0 T T z) (sym none) (given-start code T z))
-
-pub never-none : (g : ℕ) → g ≡ 0 → 1 ≤ g → ⊥
-never-none g e h = omega arith
-
-pub not-both : (n m : ℕ) → n ≤ m → m < n → ⊥
-not-both n m h k = omega arith
 
 -- the node of an element is none of a title
 pub element-shape : (code : List ℕ) (at i a b : ℕ) (rest : List ℕ) → drop at code ≡ node 4 i a b ++ rest → get_or code (at + 3) 0 ≡ 3 → ⊥
@@ -132,7 +127,7 @@ module _ (code : List ℕ) (at g g' : ℕ) (T U : Names) (z z' : Sizes) (ρ : Nu
         faults =
             rw same
             (ap (λ (t : Names). inside_key (elements_key es (15 + g) t ρ (suc j)) (givens_key gs g (elements_named es (15 + g) t ρ) ρ l)) u
-            ∙ (sym (ap (λ (n : ℕ). inside_key n (givens_key gs g (elements_named (x ∷ es) (15 + g) T ρ) ρ l)) (inside-none (unless_key (is_free (entry T (number_of_name ρ x no_ending))) (key j 8)) (elements_key es (15 + g) (set T (number_of_name ρ x no_ending) (15 + g)) ρ (suc j)) free)) ∙ faults));
+            ∙ (ap (λ (n : ℕ). inside_key n (givens_key gs g (elements_named (x ∷ es) (15 + g) T ρ) ρ l)) (inside-none refl free) ∙ faults));
         named = rw (same, u) named;
         done = λ n h. rw z₁ (get_or-set_other z (g - 1) n (get_or z (g - 1) 0 + 1) 0 (λ w. apart n h w) ∙ done n (omega arith));
         last = λ h. rw (same, z₁, get_or-set_same z (g - 1) (get_or z (g - 1) 0 + 1) 0 (omega arith)) (grown ∙ last);
@@ -179,7 +174,7 @@ module _ (code : List ℕ) (at g g' : ℕ) (T U : Names) (z z' : Sizes) (ρ : Nu
         begun = λ h. omega arith;
         faults =
             rw (second, one, u)
-            (sym (inside-none (unless_key (is_free (entry T (number_of_name ρ x.title no_ending))) (key (l + 1) 8)) _ free) ∙ faults);
+            (inside-none refl free ∙ faults);
         named = rw (second, one, u) named;
         done = λ n h. rw z₁ (get_or-set_other z g n 0 0 (λ w. omega arith) ∙ before g target z done last n (omega arith));
         last = λ h. rw (less, z₁, get_or-set_same z g 0 0 (omega arith)) (zero-add (size_of x) ∙ (more 0 ∙ ap (λ (n : ℕ). get_or target n 0) (add-zero g)));
@@ -223,14 +218,14 @@ module _ (code : List ℕ) (at g : ℕ) (T : Names) (z : Sizes) (ρ : Numbering)
       let a = node-a code at 3 l (number_of_name ρ x.title no_ending) 0 rest e in
       let p = node-place code at 3 l (number_of_name ρ x.title no_ending) 0 rest e in
       let d : f ≡ unless_key (is_free (entry T (number_of_name ρ x.title no_ending))) (key (l + 1) 8) = here.title (node-shape code at 3 l (number_of_name ρ x.title no_ending) 0 rest e) ∙ ap₂ (λ (n m : ℕ). unless_key (is_free (entry T n)) (key (m + 1) 8)) a p in
-      (d ∙ sym (inside-some (unless_key (is_free (entry T (number_of_name ρ x.title no_ending))) (key (l + 1) 8)) (inside_key (elements_key (elements x) (16 + g) (set T (number_of_name ρ x.title no_ending) (8 + g)) ρ (l + 2)) (givens_key gs (suc g) (elements_named (elements x) (16 + g) (set T (number_of_name ρ x.title no_ending) (8 + g)) ρ) ρ (l + given_length x))) (λ w. n (d ∙ w)))) ∙ faults
+      inside-some _ d n ∙ faults
   halting f room here n (x ∷ es) gs j l e faults =
       let rest = element_codes (suc j) es ρ ++ given_codes l gs ρ in
       let a = node-a code at 4 j (number_of_name ρ x no_ending) 0 rest e in
       let p = node-place code at 4 j (number_of_name ρ x no_ending) 0 rest e in
       let d : f ≡ unless_key (is_free (entry T (number_of_name ρ x no_ending))) (key j 8) = here.element (element-shape code at j (number_of_name ρ x no_ending) 0 rest e) ∙ ap₂ (λ (n m : ℕ). unless_key (is_free (entry T n)) (key m 8)) a p in
-      let s : inside_key (unless_key (is_free (entry T (number_of_name ρ x no_ending))) (key j 8)) (elements_key es (15 + g) (set T (number_of_name ρ x no_ending) (15 + g)) ρ (suc j)) ≡ f = inside-some (unless_key (is_free (entry T (number_of_name ρ x no_ending))) (key j 8)) (elements_key es (15 + g) (set T (number_of_name ρ x no_ending) (15 + g)) ρ (suc j)) (λ w. n (d ∙ w)) ∙ sym d in
-      sym (inside-some f (givens_key gs g (elements_named (x ∷ es) (15 + g) T ρ) ρ l) n) ∙ (sym (ap (λ (m : ℕ). inside_key m (givens_key gs g (elements_named (x ∷ es) (15 + g) T ρ) ρ l)) s) ∙ faults)
+      let s : inside_key (unless_key (is_free (entry T (number_of_name ρ x no_ending))) (key j 8)) (elements_key es (15 + g) (set T (number_of_name ρ x no_ending) (15 + g)) ρ (suc j)) ≡ f = sym (inside-some _ d n) in
+      inside-some _ refl n ∙ (sym (ap (λ (m : ℕ). inside_key m (givens_key gs g (elements_named (x ∷ es) (15 + g) T ρ) ρ l)) s) ∙ faults)
 
   pub halt : (f : ℕ) → at + 4 ≤ length code → GivenFaulted code at T f → (f ≡ 0 → ⊥) → Left code at g T z ρ fault names target → f ≡ fault
   halt f room here n r = halting f room here n r.es r.gs r.j r.l r.here r.faults

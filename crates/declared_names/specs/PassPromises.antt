@@ -1,6 +1,6 @@
 -- What the functions of the pass promise of whatever declarations, predicates and operations the nodes are those of; T has the names at entry, U at exit.
 -- Nothing here need be believed.
-use Rattle.std.specs.Prelude.{◌≡◌, List, [], ◌++◌, map, ℕ, suc, ◌+◌, ◌-◌, ◌≤◌, ◌<◌, length, take, drop, get_or, set, replicate}
+use Rattle.std.specs.Prelude.{◌≡◌, List, ◌++◌, map, ℕ, suc, ◌+◌, ◌-◌, ◌≤◌, ◌<◌, length, take, drop, get_or, set, replicate}
 use Rattle.form.specs.Tree.{TypeForm, Declaration, declarations, Given, State, Operation, Pred, Dossier}
 use Rattle.form.specs.Codes.{Numbering, node, name_number, number_of_name, type_codes, given_codes, pred_width, abstractly_at, declaration_codes, parameter_codes, condition_codes, state_codes, operation_codes}
 use Rattle.form.specs.Headings.{givens_at, abstract_at, concrete_at, ainit_at, cinit_at, retrieve_at, operations_at}
@@ -155,12 +155,6 @@ pub record ConditionsSeen (code abstracts concretes : List ℕ) (T U : Names) (z
       → r ≡ conditions_key d T ρ z
   pub named : (d : Dossier) (ρ : Numbering) → code ≡ three_codes d ρ → Variables (declarations d.abstract) (declarations d.concrete) ρ abstracts concretes
       → r ≡ 0 → U ≡ conditions_named d T ρ
-
--- some of the nodes, none where the places are not in order
-pub record PartOf (nodes : List ℕ) (from to : ℕ) (r : List ℕ) : Type 0 where
-  pub fits : 1 ≤ length r → from + length r ≤ length nodes
-  pub part : from ≤ to → to ≤ length nodes → r ≡ take (to - from) (drop from nodes)
-  pub none : (from ≤ to → to ≤ length nodes → ⊥) → r ≡ []
 
 -- the variables of a state
 abbrev pub VariablesOf : (code r : List ℕ) → Type 0

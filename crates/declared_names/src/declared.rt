@@ -12,32 +12,31 @@ use type_rules::entries;
 use type_rules::entries::Kind;
 use type_rules::kinds::{all_well, entry, lesser_of, look, pairs_fault, put, range_fits, unless};
 
-// What a name of a declared type is: the type's node begins at `at`.
-// Form 5: a slice from the node on would be asked to have four numbers in the place of this clause; an array of the four, each caller would have to cut out of a slice,
-// and to show there what it shows for the clause now.
-pub fn type_kind(code: &[u16], at: usize, names: &[Kind]) -> Kind
-    requires { at + 4 ≤ length code.now }
-    ensures { TypeKinded code.now at names.now result }
+// What a name of a declared type is, by the nodes from the type's on.
+// Form 5: that there are four numbers is asked by three functions. An array of the four, each caller would have to cut out of its slice, and to show there what it shows for the clause.
+pub fn type_kind(t: &[u16], names: &[Kind]) -> Kind
+    requires { 4 ≤ length t.now }
+    ensures { TypeKinded t.now 0 names.now result }
 {
-    let g = entry(names, usize::from(code[at + node::A])).element_of();
-    match code[at + node::SHAPE] {
+    let g = entry(names, usize::from(t[node::A])).element_of();
+    match t[node::SHAPE] {
         shapes::SET => g,
         shapes::RANGE => entries::NUMBER,
         shapes::POWER => g.set_of(),
-        _ => g.pair_with(entry(names, usize::from(code[at])).element_of()),
+        _ => g.pair_with(entry(names, usize::from(t[0])).element_of()),
     }
 }
 
 // The first fault of a declared type.
-pub fn type_fault(code: &[u16], at: usize, names: &[Kind], sizes: &[u16]) -> Option<Fault>
-    requires { at + 4 ≤ length code.now }
-    ensures { TypeFaulted code.now at names.now sizes.now (fault_key result) }
+pub fn type_fault(t: &[u16], names: &[Kind], sizes: &[u16]) -> Option<Fault>
+    requires { 4 ≤ length t.now }
+    ensures { TypeFaulted t.now 0 names.now sizes.now (fault_key result) }
 {
-    let a = code[at + node::A];
-    let b = code[at];
-    let i = usize::from(code[at + node::PLACE]);
+    let a = t[node::A];
+    let b = t[0];
+    let i = usize::from(t[node::PLACE]);
     let g = entry(names, usize::from(a));
-    match code[at + node::SHAPE] {
+    match t[node::SHAPE] {
         shapes::SET => unless(g.is_given(), i, Refusal::NameUnknown),
         shapes::RANGE => unless(range_fits(a, b), i, Refusal::WideType),
         shapes::POWER => unless(g.is_given(), i + 1, Refusal::NameUnknown),
@@ -68,7 +67,7 @@ fn declaration_fault(d: &[u16], names: &[Kind], sizes: &[u16]) -> Option<Fault>
         usize::from(d[node::PLACE]),
         Refusal::NameInUse,
     );
-    let of_type = type_fault(d, node::SIZE, names, sizes);
+    let of_type = type_fault(&d[node::SIZE..], names, sizes);
     lesser_of(here, of_type)
 }
 
@@ -77,7 +76,7 @@ fn reach(d: &[u16], shift: u16, names: &mut [Kind])
     requires { length d.now ≡ 8 }
     ensures { Reached d.now 0 shift names.old names.new }
 {
-    let k = type_kind(d, node::SIZE, names);
+    let k = type_kind(&d[node::SIZE..], names);
     put(names, usize::from(d[node::A]) + usize::from(shift), k);
 }
 
@@ -157,10 +156,9 @@ fn count_given(n: &[u16], g: u16, sizes: &mut [u16])
     requires { length n.now ≡ 4 }
     ensures { SizeCounted n.now 0 g sizes.old sizes.new }
 {
-    if g == 0 {
+    let Some(x) = usize::from(g).checked_sub(1) else {
         return;
-    }
-    let x = usize::from(g) - 1;
+    };
     if n[node::SHAPE] == shapes::GIVEN {
         put(sizes, x, 0);
         return;

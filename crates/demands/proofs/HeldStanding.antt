@@ -14,8 +14,8 @@ use Rattle.obligations.specs.Order.{obligation_of, total}
 use Rattle.obligations.specs.Report.{check_at}
 use Rattle.obligations.specs.Calls.{Verdict, unfinished, accepted, refuted, Held, nothing, holding}
 use Rattle.held_checks.specs.HeldBytes.{bytes_of, none_held, held_mark, held_text, held_place, is_laid, mark_of, fitting, verdict_marked, held_in, held_by}
-use Rattle.held_checks.proofs.HeldBytesLaws.{text_of, place-of, mark-of, laid-bytes}
-use Rattle.demands.proofs.LongTexts.{read_length}
+use Rattle.held_checks.proofs.HeldBytesLaws.{text_of, place-of, mark-of, laid-bytes, by_fields, no_mark}
+use Rattle.reports.proofs.ReadTexts.{read_short}
 use Rattle.demands.proofs.ReadSizes.{read-total}
 
 -- "unfinished only before the last place, accepted only at it, refuted anywhere but at 0": the place p fits the verdict
@@ -60,10 +60,6 @@ module _ (σ : Subject) (p m : ℕ) (e : fitting (total σ) p m ≡ true) where
       subst (λ (k : ℕ). Fits σ p (verdict_marked σ p k)) (sym (eqb-true m 3 q))
       (ltb-true 0 p (and_left (ltb 0 p) (leb p (total σ)) f), leb-true p (total σ) (and_right (ltb 0 p) (leb p (total σ)) f), refl)
 
-  no_mark : eqb m 1 ≡ false → eqb m 2 ≡ false → eqb m 3 ≡ false → fitting (total σ) p m ≡ false
-  unfolding fitting
-  no_mark f g h = rw (f, g, h) refl
-
   marked-fits : Fits σ p (verdict_marked σ p m)
   marked-fits = go (eqb m 1) (eqb m 2) (eqb m 3) refl refl refl
     where
@@ -71,18 +67,9 @@ module _ (σ : Subject) (p m : ℕ) (e : fitting (total σ) p m ≡ true) where
       go true y z f g h = marked-one f
       go false true z f g h = marked-two g
       go false false true f g h = marked-three h
-      go false false false f g h = absurd (true≢false (sym e ∙ no_mark f g h))
+      go false false false f g h = absurd (true≢false (sym e ∙ no_mark (total σ) p m f g h))
 
 -- ---- bytes
-
--- by their text, place and mark
-by_fields : (b : List ℕ) {t : List ℕ} {p m : ℕ} {r : Reading} → is_laid b ≡ true → held_text b ≡ t → held_place b ≡ p → held_mark b ≡ m → read t ≡ r → held_by b ≡ held_in r p m
-unfolding held_by
-by_fields b {t} {p} {m} {r} l e f g h =
-    ap (λ (x : Bool). cond x (held_in (read (held_text b)) (held_place b) (held_mark b)) nothing) l
-    ∙ ap (λ (x : List ℕ). held_in (read x) (held_place b) (held_mark b)) e
-    ∙ ap (λ (x : Reading). held_in x (held_place b) (held_mark b)) h
-    ∙ ap₂ (held_in r) f g
 
 fits-small : (σ : Subject) (p : ℕ) (v : Verdict) → Fits σ p v → p ≤ total σ
 fits-small σ p unfinished f = omega arith
@@ -97,7 +84,7 @@ fits-held σ p v f =
 -- the bytes of a text that is read, at a place that fits the verdict
 pub stand-for : (t : List ℕ) (σ : Subject) (p : ℕ) (v : Verdict) → read t ≡ reading σ.dossier → Fits σ p v → held_by (bytes_of t p (mark_of v)) ≡ holding σ p v
 stand-for t σ p v e f =
-    let l = read_length t σ.dossier e in
+    let l = read_short t e in
     let s : p < 256 ^ 8 = omega (arith, read-total t σ.dossier e, fits-small σ p v f) in
     by_fields (bytes_of t p (mark_of v)) (laid-bytes t p (mark_of v) l s) (text_of t p (mark_of v) l) (place-of t p (mark_of v) s) (mark-of t p (mark_of v)) e ∙ fits-held σ p v f
 

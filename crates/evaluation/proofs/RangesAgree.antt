@@ -1,6 +1,6 @@
 -- Ranges by number: the first with 1,000 added, and how many, against the two ends as integers. Assumes nothing.
 use mathlib.Core.Path.{◌≡◌, refl, sym, ap, ap₂, ◌∙◌}
-use mathlib.Core.Bool.{Bool, true, false, false≢true, cond, ◌&&◌}
+use mathlib.Core.Bool.{Bool, true, false≢true, cond, ◌&&◌}
 use Prim.Native.Nat.{ℕ, zero, suc, ◌+◌, ◌-◌, ◌<◌, ◌≤◌}
 use native.Mathlib.Omega.{arith}
 use lib.Dec.{leb-suc-suc, leb-suc-zero, leb-zero}
@@ -9,7 +9,7 @@ use lib.Signed.{le_z, lt_z}
 use borrow.Author.Tests.{leb-true, lt-ltb}
 use Rattle.table_places.specs.FormTree.{End, Range}
 use Rattle.table_places.specs.FormCodes.{end_number}
-use Rattle.value_types.specs.StaticRulesCarriers.{signed, end_value}
+use Rattle.value_types.specs.StaticRulesCarriers.{end_value}
 use Rattle.value_types.specs.StaticRulesNames.{range_fits}
 use Rattle.value_types.specs.MeaningValues.{Value}
 use Rattle.value_types.specs.MeaningMeaning as mean
@@ -17,35 +17,16 @@ use Rattle.value_types.specs.TypedValues.{RangeWithin}
 use Rattle.evaluation.specs.OperatorsByNumber.{in_range}
 use Rattle.lexical.proofs.BooleanTests.{and_left}
 use Rattle.sets.proofs.Divides.{sub_down}
-
--- the number k stands for the integer z: it is z + 1,000
-data Shifted : ℤ → ℕ → Type 0 where
-  above : {a k : ℕ} → k ≡ 1000 + a → Shifted (pos a) k
-  below : {a k : ℕ} → k + suc a ≡ 1000 → Shifted (negsuc a) k
-
-shifted_end : (b : Bool) (m : ℕ) → m ≤ 1000 → Shifted (signed b m) (cond b (1000 - m) (1000 + m))
-shifted_end true zero h = above {a = 0} {k = 1000 - 0} (omega arith)
-shifted_end true (suc m) h = below {a = m} {k = 1000 - suc m} (omega arith)
-shifted_end false m h = above refl
+use Rattle.table_places.proofs.NamesTypesAgreeRanges.{Stands, above, below, end-stands, stand-width}
 
 sub-up : (a b : ℕ) → a < b → sub_ℕ a b ≡ negsuc (b - suc a)
 sub-up a b h = ap (λ (t : Bool). cond t (negsuc (b - suc a)) (pos (a - b))) (lt-ltb a b h)
 
-sub_abs : (a b : ℕ) → b ≤ a → nat_abs (sub_ℕ a b) ≡ a - b
-sub_abs a b h = ap nat_abs (sub_down a b h)
-
-shifted_back : {x : ℤ} {k : ℕ} → Shifted x k → pos k -ℤ pos 1000 ≡ x
+shifted_back : {x : ℤ} {k : ℕ} → Stands x k → pos k -ℤ pos 1000 ≡ x
 shifted_back (above {a = a} {k = k} e) = let f : k - 1000 ≡ a = omega arith in sub_down k 1000 (omega arith) ∙ ap pos f
 shifted_back (below {a = a} {k = k} e) = let f : 1000 - suc k ≡ a = omega arith in sub-up k 1000 (omega arith) ∙ ap negsuc f
 
-shifted-width : {x y : ℤ} {k l : ℕ} → Shifted x k → Shifted y l → le_z x y ≡ true → l + 1 - k ≡ nat_abs (y -ℤ x) + 1
-shifted-width (above {a = zero} {k = k} e) (above {a = b} {k = l} f) h = omega arith
-shifted-width (above {a = suc a} {k = k} e) (above {a = b} {k = l} f) h = let o = leb-true (suc a) b h in omega (arith, sub_abs b (suc a) o)
-shifted-width (above {a = a} {k = k} e) (below {a = b} {k = l} f) h = absurd (false≢true h)
-shifted-width (below {a = a} {k = k} e) (above {a = b} {k = l} f) h = omega arith
-shifted-width (below {a = a} {k = k} e) (below {a = b} {k = l} f) h = let o = leb-true b a h in omega (arith, sub_abs (suc a) (suc b) (omega arith))
-
-shifted_past : {x y : ℤ} {k l : ℕ} → Shifted x k → Shifted y l → le_z x y ≡ true → x +ℤ pos (l + 1 - k) ≡ suc_ℤ y
+shifted_past : {x y : ℤ} {k l : ℕ} → Stands x k → Stands y l → le_z x y ≡ true → x +ℤ pos (l + 1 - k) ≡ suc_ℤ y
 shifted_past (above {a = a} {k = k} e) (above {a = b} {k = l} f) h =
     let o = leb-true a b h in
     let g : a + (l + 1 - k) ≡ suc b = omega arith in
@@ -73,7 +54,7 @@ below_next (negsuc a) (negsuc (suc b)) = refl
 -- ---- a range whose ends are at most 1,000 and in their order
 
 pub low_end : (e : End) → e.magnitude ≤ 1000 → pos (end_number e) -ℤ pos 1000 ≡ end_value e
-low_end e h = shifted_back (shifted_end e.negative e.magnitude h)
+low_end e h = shifted_back (end-stands e.negative e.magnitude h)
 
 range-ordered : (r : Range) → range_fits (end_value r.lower) (end_value r.upper) ≡ true → le_z (end_value r.lower) (end_value r.upper) ≡ true
 unfolding range_fits
@@ -82,15 +63,15 @@ range-ordered r h = and_left _ _ h
 pub range-count : (r : Range) → RangeWithin r → range_fits (end_value r.lower) (end_value r.upper) ≡ true
     → end_number r.upper + 1 - end_number r.lower ≡ nat_abs (end_value r.upper -ℤ end_value r.lower) + 1
 range-count r h f =
-    shifted-width (shifted_end r.lower.negative r.lower.magnitude h.0) (shifted_end r.upper.negative r.upper.magnitude h.1) (range-ordered r f)
+    omega (arith, stand-width (end-stands r.lower.negative r.lower.magnitude h.0) (end-stands r.upper.negative r.upper.magnitude h.1) (range-ordered r f))
 
 -- "t in a..b"
 pub ranges-agree : (r : Range) (v : Value) → RangeWithin r → range_fits (end_value r.lower) (end_value r.upper) ≡ true
     → mean.in_range v r ≡ in_range (pos (end_number r.lower) -ℤ pos 1000) (end_number r.upper + 1 - end_number r.lower) v.code
 unfolding mean.in_range in_range
 ranges-agree r v h f =
-    let a = shifted_end r.lower.negative r.lower.magnitude h.0 in
-    let b = shifted_end r.upper.negative r.upper.magnitude h.1 in
+    let a = end-stands r.lower.negative r.lower.magnitude h.0 in
+    let b = end-stands r.upper.negative r.upper.magnitude h.1 in
     let n : ℕ = end_number r.upper + 1 - end_number r.lower in
     let l = low_end r.lower h.0 in
     let u : lt_z v.code ((pos (end_number r.lower) -ℤ pos 1000) +ℤ pos n) ≡ le_z v.code (end_value r.upper) =

@@ -19,12 +19,9 @@ use Rattle.value_types.specs.MeaningValues.{Value}
 use Rattle.value_types.specs.MeaningMeaning.{Binding, Environment, value_of, with}
 use Rattle.value_types.specs.TypedValues.{InReach, Carried}
 use Rattle.table_places.specs.TableNodesTableByNumber.{next_slot}
-use Rattle.table_places.specs.ResolvedTable.{Slots, name_table}
+use Rattle.table_places.specs.ResolvedTable.{Slots, slot_of, name_table}
 use Rattle.evaluation.specs.EvaluationByNumber.{Values}
 use Rattle.evaluation.specs.SlotValues.{Slotted, Below, bound_slot, Held}
-
-abbrev slot_of : Slots → Name → Option (Name × ℕ)
-slot_of W x = find (λ (w : Name × ℕ). same_name w.0 x) W
 
 abbrev bound_to : Binding → Name → Option (Name × Value)
 bound_to B x = find (λ (b : Name × Value). same_name b.0 x) B

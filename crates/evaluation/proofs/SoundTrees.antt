@@ -3,7 +3,7 @@
 use mathlib.Core.Path.{◌≡◌, sym, ap, ap₂, ◌∙◌, subst}
 use mathlib.Core.Bool.{Bool, true}
 use mathlib.Core.List.{[]}
-use Prim.Native.Nat.{ℕ, suc, ◌≤◌}
+use Prim.Native.Nat.{ℕ, suc, ◌+◌, ◌≤◌}
 use Rattle.table_places.specs.FormTree.{Letters, End, Range, Domain, given_set, Prefix, Operator, Division, Connective, Quantifier, Comparison, Membership}
 use Rattle.table_places.specs.FormTree.{Term, group, prefix, binary, divided, listed, pairs, such, Items, only, also, Pairs, only_pair, also_pair}
 use Rattle.table_places.specs.FormTree.{Pred, negation, paren, quantified, connected, compared, member, within, related}
@@ -11,14 +11,14 @@ use Rattle.lexical.specs.Symbols.{Name}
 use Rattle.value_types.specs.StaticRulesCarriers.{end_value}
 use Rattle.value_types.specs.StaticRulesTypes.{Ty, has, is_element, prefix_fits, operator_fits, member_fits, related_fits, pairs_of_types}
 use Rattle.value_types.specs.StaticRulesScope.{Scope, binding}
-use Rattle.value_types.specs.StaticRulesNames.{judge_term, judge_items, judge_pairs, judge_pred, domain_carrier, domain_faults, over_fault, range_fits}
+use Rattle.value_types.specs.StaticRulesNames.{judge_term, judge_items, judge_pairs, judge_pred, domain_carrier, domain_length, domain_faults, over_fault, range_fits}
 use Rattle.value_types.specs.StaticRulesLimits.{size_term, size_items, size_pairs, size_pred}
 use Rattle.value_types.specs.TypedValues.{TermWithin, ItemsWithin, PairsWithin, PredWithin, DomainWithin, RangeWithin, sizes_in}
 use Rattle.table_places.specs.FormBoundNames.{TermBindsFew, ItemsBindFew, PairsBindFew, PredBindsFew}
-use Rattle.value_types.proofs.FaultlessParts.{group-parts, prefix-parts, binary-parts, divided-parts, listed-parts, pairs-parts, such-parts, only_parts, also-parts, only-pair-parts, also-pair-parts}
-use Rattle.value_types.proofs.FaultlessParts.{negation-parts, paren-parts, quantified-parts, connected-parts, compared-parts, member-parts, within-parts, related-parts}
-use Rattle.value_types.proofs.FaultlessParts.{group-sizes, prefix-sizes, binary-sizes, divided-sizes, listed-sizes, pairs-sizes, such-sizes, bound-sizes, only-sizes, also-sizes, only-pair-sizes, also-pair-sizes}
-use Rattle.value_types.proofs.FaultlessParts.{negation-sizes, paren-sizes, quantified-sizes, connected-sizes, compared-sizes, member-sizes, within-sizes, related-sizes}
+use Rattle.value_types.proofs.RefusalsFaultLists.{append_nil-both, append_nil-three}
+use Rattle.value_types.proofs.FaultlessParts.{prefix-parts, binary-parts, divided-parts, listed-parts, pairs-parts, such-parts, also-parts, only-pair-parts, also-pair-parts}
+use Rattle.value_types.proofs.FaultlessParts.{quantified-parts, compared-parts, member-parts, within-parts, related-parts}
+use Rattle.value_types.proofs.FaultlessParts.{binary-sizes, bound-sizes}
 use Rattle.value_types.proofs.TypeTests.{ItemsOf, items_of, items-split, PairsOf, pairs_of, pairs-split}
 use Rattle.table_places.specs.ResolvedTable.{type_in}
 use Rattle.value_types.proofs.StaticRulesTypePlaces.{type-placed}
@@ -76,14 +76,14 @@ module _ (Γ : Scope) (k : ℕ) where
   -- ---- terms
 
   pub sound-group : (t : Term) → SoundTerm (group t) Γ k → SoundTerm t Γ k
-  unfolding TermWithin TermBindsFew
-  sound-group t s = record { at = _; sized_at = _; judged = group-parts t Γ s.at s.judged; sized = group-sizes t (sizes_in Γ) s.sized_at s.sized; within = s.within; few = s.few }
+  unfolding TermWithin TermBindsFew judge_term size_term
+  sound-group t s = record { at = suc s.at; sized_at = suc s.sized_at; judged = s.judged; sized = s.sized; within = s.within; few = s.few }
 
   pub sound-prefix : (o : Prefix) (t : Term) → SoundTerm (prefix o t) Γ k → SoundTerm t Γ k × (prefix_fits o (type_in Γ t) ≡ true)
-  unfolding TermWithin TermBindsFew
+  unfolding TermWithin TermBindsFew size_term
   sound-prefix o t s =
       let p = prefix-parts o t Γ s.at s.judged in (
-        record { at = _; sized_at = _; judged = p.0; sized = prefix-sizes o t (sizes_in Γ) s.sized_at s.sized; within = s.within; few = s.few },
+        record { at = _; sized_at = suc s.sized_at; judged = p.0; sized = s.sized; within = s.within; few = s.few },
         here-one (prefix_fits o) t (suc s.at) p.1,
       )
 
@@ -98,27 +98,27 @@ module _ (Γ : Scope) (k : ℕ) where
       )
 
   pub sound-divided : (o : Division) (t : Term) (e : End) → SoundTerm (divided o t e) Γ k → SoundTerm t Γ k
-  unfolding TermWithin TermBindsFew
+  unfolding TermWithin TermBindsFew size_term
   sound-divided o t e s =
-      record { at = _; sized_at = _; judged = (divided-parts o t e Γ s.at s.judged).0; sized = divided-sizes o t e (sizes_in Γ) s.sized_at s.sized; within = s.within.0; few = s.few }
+      record { at = _; sized_at = s.sized_at; judged = (divided-parts o t e Γ s.at s.judged).0; sized = s.sized; within = s.within.0; few = s.few }
 
   pub sound-listed : (ts : Items) → SoundTerm (listed ts) Γ k → SoundItems ts Γ k
-  unfolding TermWithin TermBindsFew
+  unfolding TermWithin TermBindsFew size_term
   sound-listed ts s =
       let p = listed-parts ts Γ s.at s.judged in
       let q = items_of (judge_items ts Γ (suc s.at)).types p.1 in
-      record { at = _; sized_at = _; judged = p.0; sized = listed-sizes ts (sizes_in Γ) s.sized_at s.sized; within = s.within; few = s.few; type = q.0; fit = q.1 }
+      record { at = _; sized_at = suc s.sized_at; judged = p.0; sized = s.sized; within = s.within; few = s.few; type = q.0; fit = q.1 }
 
   pub sound-pairs : (ts : Pairs) → SoundTerm (pairs ts) Γ k → SoundPairs ts Γ k
-  unfolding TermWithin TermBindsFew
+  unfolding TermWithin TermBindsFew size_term
   sound-pairs ts s =
       let p = pairs-parts ts Γ s.at s.judged in
       let q = pairs_of (judge_pairs ts Γ (suc s.at)).types p.1 in
       record {
         at = _;
-        sized_at = _;
+        sized_at = suc s.sized_at;
         judged = p.0;
-        sized = pairs-sizes ts (sizes_in Γ) s.sized_at s.sized;
+        sized = s.sized;
         within = s.within;
         few = s.few;
         first = q.0;
@@ -137,7 +137,7 @@ module _ (Γ : Scope) (k : ℕ) where
     pub body : SoundPred p (binding Γ x (domain_carrier Γ d)) (suc k)
 
   pub sound-such : (x : Letters) (g : Name) (p : Pred) → SoundTerm (such x g p) Γ k → Binder x (given_set g) p
-  unfolding TermWithin TermBindsFew
+  unfolding TermWithin TermBindsFew size_term
   sound-such x g p s =
       let q = such-parts x g p Γ s.at s.judged in
       record {
@@ -145,24 +145,24 @@ module _ (Γ : Scope) (k : ℕ) where
         known = q.1;
         ends = tt;
         few = s.few.0;
-        body = record { at = _; sized_at = _; judged = q.2; sized = bound-sizes x (given_set g) p Γ _ (such-sizes x g p (sizes_in Γ) s.sized_at s.sized); within = s.within; few = s.few.1 };
+        body = record { at = _; sized_at = _; judged = q.2; sized = bound-sizes x (given_set g) p Γ (s.sized_at + 5) s.sized; within = s.within; few = s.few.1 };
       }
 
   -- ---- items and pairs of a brace
 
   pub sound-only : (t : Term) → SoundItems (only t) Γ k → SoundTerm t Γ k × (has (type_in Γ t) is_element ≡ true)
-  unfolding TermWithin TermBindsFew judge_term
+  unfolding TermWithin TermBindsFew judge_term size_term
   sound-only t s =
       let q = items-split s.type (judge_term t Γ s.at).type [] s.fit in (
-        record { at = _; sized_at = _; judged = only_parts t Γ s.at s.judged; sized = only-sizes t (sizes_in Γ) s.sized_at s.sized; within = s.within; few = s.few },
+        record { at = s.at; sized_at = s.sized_at; judged = s.judged; sized = s.sized; within = s.within; few = s.few },
         here-one (λ (r : Ty). has r is_element) t s.at (ap (λ (r : Ty). has r is_element) (sym q.0) ∙ s.fit.element),
       )
 
   pub sound-also : (t : Term) (ts : Items) → SoundItems (also t ts) Γ k → SoundTerm t Γ k × (has (type_in Γ t) is_element ≡ true) × SoundItems ts Γ k
-  unfolding TermWithin TermBindsFew judge_term
+  unfolding TermWithin TermBindsFew judge_term size_term
   sound-also t ts s =
       let p = also-parts t ts Γ s.at s.judged in
-      let z = also-sizes t ts (sizes_in Γ) s.sized_at s.sized in
+      let z = append_nil-both _ _ s.sized in
       let q = items-split s.type (judge_term t Γ s.at).type (judge_items ts Γ (suc (judge_term t Γ s.at).next)).types s.fit in (
         record { at = _; sized_at = _; judged = p.0; sized = z.0; within = s.within.0; few = s.few.0 },
         here-one (λ (r : Ty). has r is_element) t s.at (ap (λ (r : Ty). has r is_element) (sym q.0) ∙ s.fit.element),
@@ -193,20 +193,20 @@ module _ (Γ : Scope) (k : ℕ) where
       }
 
   pub sound-only-pair : (t u : Term) → SoundPairs (only_pair t u) Γ k → TwoElements t u
-  unfolding TermWithin TermBindsFew judge_term
+  unfolding TermWithin TermBindsFew judge_term size_term
   sound-only-pair t u s =
       let p = only-pair-parts t u Γ s.at s.judged in
-      let z = only-pair-sizes t u (sizes_in Γ) s.sized_at s.sized in
+      let z = append_nil-both _ _ s.sized in
       let j : ℕ = suc (judge_term t Γ s.at).next in
       let q = pairs-split s.first s.second ((judge_term t Γ s.at).type, (judge_term u Γ j).type) [] s.fit in
       two-elements t u s.first s.second s.at j s.brace (record { at = _; sized_at = _; judged = p.0; sized = z.0; within = s.within.0; few = s.few.0 })
       (record { at = _; sized_at = _; judged = p.1; sized = z.1; within = s.within.1; few = s.few.1 }) q.0 q.1 s.fit.first s.fit.second s.over
 
   pub sound-also-pair : (t u : Term) (ts : Pairs) → SoundPairs (also_pair t u ts) Γ k → TwoElements t u × SoundPairs ts Γ k
-  unfolding TermWithin TermBindsFew judge_term
+  unfolding TermWithin TermBindsFew judge_term size_term
   sound-also-pair t u ts s =
       let p = also-pair-parts t u ts Γ s.at s.judged in
-      let z = also-pair-sizes t u ts (sizes_in Γ) s.sized_at s.sized in
+      let z = append_nil-three _ _ _ s.sized in
       let j : ℕ = suc (judge_term t Γ s.at).next in
       let l : ℕ = suc (judge_term u Γ j).next in
       let q = pairs-split s.first s.second ((judge_term t Γ s.at).type, (judge_term u Γ j).type) (judge_pairs ts Γ l).types s.fit in (
@@ -230,17 +230,17 @@ module _ (Γ : Scope) (k : ℕ) where
   -- ---- predicates
 
   pub sound-negation : (p : Pred) → SoundPred (negation p) Γ k → SoundPred p Γ k
-  unfolding TermWithin TermBindsFew
+  unfolding TermWithin TermBindsFew judge_term size_term
   sound-negation p s =
-      record { at = _; sized_at = _; judged = negation-parts p Γ s.at s.judged; sized = negation-sizes p (sizes_in Γ) s.sized_at s.sized; within = s.within; few = s.few }
+      record { at = suc s.at; sized_at = suc s.sized_at; judged = s.judged; sized = s.sized; within = s.within; few = s.few }
 
   pub sound-paren : (p : Pred) → SoundPred (paren p) Γ k → SoundPred p Γ k
-  unfolding TermWithin TermBindsFew
+  unfolding TermWithin TermBindsFew judge_term size_term
   sound-paren p s =
-      record { at = _; sized_at = _; judged = paren-parts p Γ s.at s.judged; sized = paren-sizes p (sizes_in Γ) s.sized_at s.sized; within = s.within; few = s.few }
+      record { at = suc s.at; sized_at = suc s.sized_at; judged = s.judged; sized = s.sized; within = s.within; few = s.few }
 
   pub sound-quantified : (q : Quantifier) (x : Letters) (d : Domain) (p : Pred) → SoundPred (quantified q x d p) Γ k → Binder x d p
-  unfolding TermWithin TermBindsFew
+  unfolding TermWithin TermBindsFew size_term
   sound-quantified q x d p s =
       let r = quantified-parts q x d p Γ s.at s.judged in
       record {
@@ -248,32 +248,32 @@ module _ (Γ : Scope) (k : ℕ) where
         known = r.1;
         ends = s.within.0;
         few = s.few.0;
-        body = record { at = _; sized_at = _; judged = r.2; sized = bound-sizes x d p Γ _ (quantified-sizes q x d p (sizes_in Γ) s.sized_at s.sized); within = s.within.1; few = s.few.1 };
+        body = record { at = _; sized_at = _; judged = r.2; sized = bound-sizes x d p Γ (s.sized_at + 5 + domain_length d) s.sized; within = s.within.1; few = s.few.1 };
       }
 
   pub sound-connected : (o : Connective) (p q : Pred) → SoundPred (connected o p q) Γ k → SoundPred p Γ k × SoundPred q Γ k
-  unfolding TermWithin TermBindsFew
+  unfolding TermWithin TermBindsFew judge_term size_term
   sound-connected o p q s =
-      let r = connected-parts o p q Γ s.at s.judged in
-      let z = connected-sizes o p q (sizes_in Γ) s.sized_at s.sized in (
+      let r = append_nil-both _ _ s.judged in
+      let z = append_nil-both _ _ s.sized in (
         record { at = _; sized_at = _; judged = r.0; sized = z.0; within = s.within.0; few = s.few.0 },
         record { at = _; sized_at = _; judged = r.1; sized = z.1; within = s.within.1; few = s.few.1 },
       )
 
   pub sound-compared : (o : Comparison) (t u : Term) → SoundPred (compared o t u) Γ k → SoundTerm t Γ k × SoundTerm u Γ k
-  unfolding TermWithin TermBindsFew
+  unfolding TermWithin TermBindsFew size_term
   sound-compared o t u s =
       let r = compared-parts o t u Γ s.at s.judged in
-      let z = compared-sizes o t u (sizes_in Γ) s.sized_at s.sized in (
+      let z = append_nil-both _ _ s.sized in (
         record { at = _; sized_at = _; judged = r.0; sized = z.0; within = s.within.0; few = s.few.0 },
         record { at = _; sized_at = _; judged = r.1; sized = z.1; within = s.within.1; few = s.few.1 },
       )
 
   pub sound-member : (o : Membership) (t u : Term) → SoundPred (member o t u) Γ k → SoundTerm t Γ k × SoundTerm u Γ k × (member_fits (type_in Γ t) (type_in Γ u) ≡ true)
-  unfolding TermWithin TermBindsFew
+  unfolding TermWithin TermBindsFew size_term
   sound-member o t u s =
       let r = member-parts o t u Γ s.at s.judged in
-      let z = member-sizes o t u (sizes_in Γ) s.sized_at s.sized in (
+      let z = append_nil-both _ _ s.sized in (
         record { at = _; sized_at = _; judged = r.0; sized = z.0; within = s.within.0; few = s.few.0 },
         record { at = _; sized_at = _; judged = r.1; sized = z.1; within = s.within.1; few = s.few.1 },
         here-two member_fits t u s.at (suc (judge_term t Γ s.at).next) r.2,
@@ -281,23 +281,23 @@ module _ (Γ : Scope) (k : ℕ) where
 
   pub sound-within : (o : Membership) (t : Term) (r : Range) → SoundPred (within o t r) Γ k
       → SoundTerm t Γ k × RangeWithin r × (range_fits (end_value r.lower) (end_value r.upper) ≡ true)
-  unfolding TermWithin TermBindsFew
+  unfolding TermWithin TermBindsFew size_term
   sound-within o t r s =
       let q = within-parts o t r Γ s.at s.judged in (
-        record { at = _; sized_at = _; judged = q.0; sized = within-sizes o t r (sizes_in Γ) s.sized_at s.sized; within = s.within.0; few = s.few },
+        record { at = _; sized_at = s.sized_at; judged = q.0; sized = s.sized; within = s.within.0; few = s.few },
         s.within.1,
         q.2,
       )
 
   pub sound-related : (o : Membership) (t u v : Term) → SoundPred (related o t u v) Γ k
       → SoundTerm t Γ k × SoundTerm u Γ k × SoundTerm v Γ k × (related_fits (type_in Γ t) (type_in Γ u) (type_in Γ v) ≡ true)
-  unfolding TermWithin TermBindsFew
+  unfolding TermWithin TermBindsFew size_term
   sound-related o t u v s =
       let i : ℕ = s.at in
       let j : ℕ = suc (judge_term t Γ i).next in
       let l : ℕ = suc (judge_term u Γ j).next in
       let r = related-parts o t u v Γ i s.judged in
-      let z = related-sizes o t u v (sizes_in Γ) s.sized_at s.sized in (
+      let z = append_nil-three _ _ _ s.sized in (
         record { at = _; sized_at = _; judged = r.0; sized = z.0; within = s.within.0; few = s.few.0 },
         record { at = _; sized_at = _; judged = r.1; sized = z.1; within = s.within.1; few = s.few.1 },
         record { at = _; sized_at = _; judged = r.2; sized = z.2; within = s.within.2; few = s.few.2 },

@@ -14,7 +14,8 @@ use Rattle.value_types.specs.StaticRulesCarriers.{plain}
 use Rattle.value_types.specs.StaticRulesTypes.{is_element, is_pairs, Ty, has, same_type, pairs_of_types, is_any_set, prefix_fits, operator_fits, member_fits, related_fits}
 use Rattle.value_types.specs.StaticRulesScope.{Scope}
 use Rattle.sets.specs.Sets as sets
-use Rattle.value_types.proofs.LexicalBooleanTests.{and_both, and_left, and_right}
+use Rattle.std.proofs.lemmas.Bool.{and_from}
+use Rattle.value_types.proofs.LexicalBooleanTests.{and_left, and_right}
 use Rattle.value_types.specs.MeaningValues.{Value, natural, prefix_value, pair_bit}
 use Rattle.value_types.specs.MeaningMeaning.{Environment, size_of_given}
 use Rattle.value_types.specs.TypedValues.{IsElementOf, HasType, sizes_over, Carried}
@@ -78,7 +79,7 @@ module _ (ρ : Environment) where
   pub pair-of : (τ υ : Ty) (u v w : Value) → has τ is_element ≡ true → has υ is_element ≡ true → HasType ρ τ u → HasType ρ υ v → HasType ρ (pairs_of_types τ υ) w
       → Pair v.first u.code v.code
   unfolding related_fits
-  pair-of τ υ u v w e f h k l = (related-codes τ υ (pairs_of_types τ υ) u v w (and_both (and_both e f) (type-refl (pairs_of_types τ υ))) h k l).pair
+  pair-of τ υ u v w e f h k l = (related-codes τ υ (pairs_of_types τ υ) u v w (and_from _ _ (and_from _ _ e f) (type-refl (pairs_of_types τ υ))) h k l).pair
 
   -- an element and its set
   pub member-codes : (τ υ : Ty) (u v : Value) → member_fits τ υ ≡ true → HasType ρ τ u → HasType ρ υ v → IsPlace u.code × IsBits v.code

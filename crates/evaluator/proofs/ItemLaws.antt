@@ -15,7 +15,8 @@ use Rattle.operators.specs.EvaluationOperatorsByNumber.{IsPlace, IsBits}
 use Rattle.operators.specs.EvaluationEvaluationByNumber.{Values, Terms, Inside, shape_at, end_at, first_at, second_at, TermIs, ItemsIs, Pair, pair_code}
 use Rattle.operators.specs.EvaluationEvaluationByNumber.{LastItem, MoreItems, LastPair, MorePairs, ItemsNode}
 use Rattle.evaluator.specs.EvaluationPromises.{TermRuns, TermAnswers, ItemsRun, ItemsAnswer}
-use Rattle.evaluator.proofs.NodeLaws.{read, term_runs, items-run}
+use Rattle.operators.proofs.SignedLaws.{read}
+use Rattle.evaluator.proofs.NodeLaws.{term_runs, items-run}
 
 pub items_at : {t : List ℕ} {e : ℕ} {ρ σ : Values} → σ ≡ ρ → Inside e × ItemsRun t e ρ → Inside e × ItemsRun t e σ
 items_at {t} {e} q r = (r.0, subst (λ (l : Values). ItemsRun t e l) (sym q) r.1)

@@ -1,5 +1,5 @@
 -- The loops over what is bound: what the values passed so far say of all of them. Assumes nothing.
-use mathlib.Core.Path.{◌≡◌, refl, sym, ap, subst, ◌∙◌}
+use mathlib.Core.Path.{◌≡◌, refl, sym, ap, ap₂, subst, ◌∙◌}
 use mathlib.Core.Bool.{Bool, true, false}
 use mathlib.Core.List.{List}
 use Prim.Native.Nat.{ℕ, suc, ◌+◌, ◌-◌, ◌*◌, ◌<◌, ◌≤◌}
@@ -24,6 +24,10 @@ use Rattle.evaluator.proofs.TruthLaws.{truth-at, truth-runs}
 
 pub still : (l l₀ : Values) {m : Values} (s : ℕ) (z : ℤ) → m ≡ set l s z → ((v : ℤ) → set l s v ≡ set l₀ s v) → (v : ℤ) → set m s v ≡ set l₀ s v
 still l l₀ s z h same v = ap (λ (x : Values). set x s v) h ∙ set-set l s z v ∙ same v
+
+-- a slot is named by a number in the table
+pub at-slot : {l : Values} (l₀ : Values) {s i : ℕ} {x y : ℤ} → s ≡ i → l ≡ set l₀ s x → x ≡ y → l ≡ set l₀ i y
+at-slot l₀ q h e = h ∙ ap₂ (set l₀) q e
 
 -- the slot is given back what it had
 pub given_back : (l l₀ : Values) (s : ℕ) {z : ℤ} → ((v : ℤ) → set l s v ≡ set l₀ s v) → z ≡ get_or l₀ s (pos 0) → set l s z ≡ l₀

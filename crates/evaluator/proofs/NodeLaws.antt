@@ -1,31 +1,19 @@
 -- A term's node opened by its shape: what its parts must give, what its operator takes, and what it gives. Assumes nothing.
-use mathlib.Core.Path.{◌≡◌, refl, sym, ap, ap₂, subst, ◌∙◌}
-use mathlib.Core.Bool.{Bool, true, false}
+use mathlib.Core.Path.{◌≡◌, sym, ap, ap₂, subst, ◌∙◌}
+use mathlib.Core.Bool.{false}
 use mathlib.Core.List.{List}
 use Prim.Native.Nat.{ℕ, zero, suc, ◌-◌, ◌^◌, ◌<◌}
-use lib.Dec.{eqb, eqb→eq, T}
+use lib.Dec.{eqb}
 use lib.ListN.{get_or}
 use lib.IntN.{ℤ, pos}
 use lib.Signed.{mag}
 use mir.Syntax.{w64}
 use mir.Val.{to_z, of_z}
-use mir.Facts.{to_z-of_z}
+use Rattle.operators.proofs.SignedLaws.{read}
 use Rattle.operators.specs.EvaluationOperatorsByNumber.{Small, prefixed, PrefixTakes, divided, operated, OperatorTakes}
 use Rattle.operators.specs.EvaluationEvaluationByNumber.{Values, Terms, Truths, Inside, shape_at, end_at, first_at, second_at, TermIs, ItemsIs, TruthIs}
 use Rattle.operators.specs.EvaluationEvaluationByNumber.{PrefixNode, DivisionNode, OperatorNode, SuchNode, TermNode}
 use Rattle.evaluator.specs.EvaluationPromises.{TermRuns, TermAnswers, ItemsRun, ItemsAnswer, SuchRuns, SuchAnswers}
-
--- a signed number is read back from its bits
-pub read : {z : ℤ} → mag z < 2 ^ 63 → to_z w64 (of_z w64 z) ≡ z
-read h = to_z-of_z {w = w64} (record { sfits = h })
-
--- numbers that are not the same
-pub unequal : {m n : ℕ} → (m ≡ n → ⊥) → eqb m n ≡ false
-unequal {m} {n} h = go (eqb m n) refl
-  where
-    go : (b : Bool) → eqb m n ≡ b → b ≡ false
-    go true e = absurd (h (eqb→eq m n (subst T (sym e) tt)))
-    go false e = refl
 
 -- ---- what runs and answers with values in slots does so with the same values
 

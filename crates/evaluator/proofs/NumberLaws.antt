@@ -1,34 +1,25 @@
 -- The numbers of a node as signed numbers of 64 bits. Assumes nothing.
 use mathlib.Core.Path.{◌≡◌, sym, ap, ap₂, subst, ◌∙◌}
-use Prim.Native.Nat.{ℕ, suc, ◌^◌, ◌<◌, ◌≤◌}
+use Prim.Native.Nat.{ℕ, ◌^◌, ◌<◌}
 use native.Mathlib.Nat.{lt_of_le_of_lt, lt_of_lt_of_le}
-use native.Mathlib.Omega.{arith}
 use lib.Dec.{lit<, lit≤}
 use lib.IntN.{ℤ, pos, negsuc, nat_abs, ◌+ℤ◌, ◌-ℤ◌}
-use lib.Signed.{mag}
+use lib.Signed.{mag, nat_abs-le}
 use mir.Syntax.{w16, w64}
 use mir.Val.{Fits, SFits, of_z, to_z}
-use mir.Facts.{to_z-of_z, to_z_pos}
+use mir.Facts.{to_z-of_z}
 use Rattle.sets.proofs.Floor.{add-mag}
-
-abs_mag : (z : ℤ) → nat_abs z ≤ suc (mag z)
-abs_mag (pos a) = omega arith
-abs_mag (negsuc a) = omega arith
+use Rattle.operators.proofs.SignedLaws.{widened}
 
 pub small-read : (x : ℤ) → mag x < 2 ^ 63 → nat_abs x < 131072 → nat_abs (to_z w64 (of_z w64 x)) < 131072
 small-read x f h = rw (to_z-of_z {w = w64} {z = x} (record { sfits = f })) h
-
-widened : (n : ℕ) {z : ℤ} → Fits w16 n → z ≡ pos n → to_z w64 (of_z w64 z) ≡ pos n
-widened n f e = ap (λ (v : ℤ). to_z w64 (of_z w64 v)) e ∙ to_z_pos w64 {n = n} (lt_of_lt_of_le f.fits (lit≤ tt))
 
 module _ (w : ℕ) (f : Fits w16 w) where
   low-mag : mag (pos w -ℤ pos 1000) < 66536
   low-mag = add-mag (pos w) (negsuc 999) 65536 1000 f.fits (lit< tt)
 
   pub low_small : {l : ℤ} → l ≡ pos w -ℤ pos 1000 → nat_abs l < 131072
-  low_small q =
-      subst (λ (z : ℤ). nat_abs z < 131072) (sym q)
-      (let m : mag (pos w -ℤ pos 1000) < 66536 = low-mag in let a = abs_mag (pos w -ℤ pos 1000) in lt_of_le_of_lt a (omega arith))
+  low_small q = subst (λ (z : ℤ). nat_abs z < 131072) (sym q) (lt_of_le_of_lt (nat_abs-le (pos w -ℤ pos 1000) {H = 66536} low-mag) (lit< tt))
 
   -- the number as the machine has it
   module _ {z : ℤ} (e : z ≡ pos w) where

@@ -17,11 +17,10 @@ use operators::{
     asked, compared, connected, divided, has, in_range, joined, operated, pair, prefixed, settles,
     single,
 };
+pub use slot_carriers::SLOTS;
 use table_nodes::table_shapes;
 
-// Form 1: a length and places in a node, no kinds. How many slots there are.
-pub const SLOTS: usize = table_nodes::slots::ELEMENTS as usize;
-
+// Form 1: places in a node, no kinds.
 // How far before its end a node's numbers stand. Behind the last part of a binder, and of a membership in a range, stand two nodes: that of the set or range, and its own.
 pub const SHAPE_BACK: usize = 1;
 
@@ -60,7 +59,7 @@ pub fn value(t: &[u16; node::NUMBERS], end: usize, slots: &mut [i64; SLOTS]) -> 
 {
     let shape = t[end - SHAPE_BACK];
     if shape == table_shapes::SLOT {
-        return slots[t[end - FIRST_BACK] as usize];
+        return slots[usize::from(t[end - FIRST_BACK])];
     }
     if shape == table_shapes::VALUE {
         return i64::from(t[end - FIRST_BACK]);
@@ -89,7 +88,7 @@ fn compound(t: &[u16; node::NUMBERS], end: usize, slots: &mut [i64; SLOTS]) -> i
             divided(first, t[end - SECOND_BACK], x)
         }
         table_shapes::BINARY => {
-            let x = value(t, t[end - END_BACK] as usize, slots);
+            let x = value(t, usize::from(t[end - END_BACK]), slots);
             let y = value(t, end - node::SIZE, slots);
             operated(first, x, y)
         }
@@ -114,18 +113,18 @@ fn items(t: &[u16; node::NUMBERS], end: usize, slots: &mut [i64; SLOTS]) -> i64
             single(x)
         }
         table_shapes::ALSO_ITEM => {
-            let x = value(t, t[end - END_BACK] as usize, slots);
+            let x = value(t, usize::from(t[end - END_BACK]), slots);
             let s = items(t, end - node::SIZE, slots);
             joined(single(x), s)
         }
         table_shapes::LAST_PAIR => {
-            let x = value(t, t[end - END_BACK] as usize, slots);
+            let x = value(t, usize::from(t[end - END_BACK]), slots);
             let y = value(t, end - node::SIZE, slots);
             single(pair(first, x, y))
         }
         _ => {
-            let x = value(t, t[end - END_BACK] as usize, slots);
-            let y = value(t, t[end - SECOND_BACK] as usize, slots);
+            let x = value(t, usize::from(t[end - END_BACK]), slots);
+            let y = value(t, usize::from(t[end - SECOND_BACK]), slots);
             let s = items(t, end - node::SIZE, slots);
             joined(single(pair(first, x, y)), s)
         }
@@ -142,7 +141,7 @@ fn such(t: &[u16; node::NUMBERS], end: usize, slots: &mut [i64; SLOTS]) -> i64
     ensures answers { SuchAnswers t.now end slots.old result }
     ensures kept { slots.new ≡ slots.old }
 {
-    let slot = t[end - FIRST_BACK] as usize;
+    let slot = usize::from(t[end - FIRST_BACK]);
     let old = slots[slot];
     let n = t[end - node::SIZE - SECOND_BACK];
     let mut s: u32 = 0;
@@ -168,7 +167,7 @@ pub fn holds(t: &[u16; node::NUMBERS], end: usize, slots: &mut [i64; SLOTS]) -> 
         table_shapes::TRUTH => first == HOLDS,
         table_shapes::NEGATION => !holds(t, end - node::SIZE, slots),
         table_shapes::CONNECTED => {
-            let p = holds(t, t[end - END_BACK] as usize, slots);
+            let p = holds(t, usize::from(t[end - END_BACK]), slots);
             if settles(first, p) {
                 return connected(first, p, false);
             }
@@ -176,7 +175,7 @@ pub fn holds(t: &[u16; node::NUMBERS], end: usize, slots: &mut [i64; SLOTS]) -> 
             connected(first, p, q)
         }
         table_shapes::COMPARED => {
-            let x = value(t, t[end - END_BACK] as usize, slots);
+            let x = value(t, usize::from(t[end - END_BACK]), slots);
             let y = value(t, end - node::SIZE, slots);
             compared(first, x, y)
         }
@@ -197,7 +196,7 @@ fn member(t: &[u16; node::NUMBERS], end: usize, slots: &mut [i64; SLOTS]) -> boo
     let shape = t[end - SHAPE_BACK];
     match shape {
         table_shapes::MEMBER => {
-            let x = value(t, t[end - END_BACK] as usize, slots);
+            let x = value(t, usize::from(t[end - END_BACK]), slots);
             let s = value(t, end - node::SIZE, slots);
             asked(first == IN, has(s, x))
         }
@@ -213,8 +212,8 @@ fn member(t: &[u16; node::NUMBERS], end: usize, slots: &mut [i64; SLOTS]) -> boo
             )
         }
         _ => {
-            let x = value(t, t[end - END_BACK] as usize, slots);
-            let y = value(t, t[end - SECOND_BACK] as usize, slots);
+            let x = value(t, usize::from(t[end - END_BACK]), slots);
+            let y = value(t, usize::from(t[end - SECOND_BACK]), slots);
             let s = value(t, end - node::SIZE, slots);
             asked(shape == table_shapes::RELATED, has(s, pair(first, x, y)))
         }
@@ -246,7 +245,7 @@ fn some(t: &[u16; node::NUMBERS], end: usize, wanted: bool, slots: &mut [i64; SL
     ensures answers { SomeAnswers t.now end slots.old wanted result }
     ensures kept { slots.new ≡ slots.old }
 {
-    let slot = t[end - FIRST_BACK] as usize;
+    let slot = usize::from(t[end - FIRST_BACK]);
     let low = t[end - node::SIZE - FIRST_BACK];
     let n = t[end - node::SIZE - SECOND_BACK];
     let old = slots[slot];
@@ -270,7 +269,7 @@ fn once(t: &[u16; node::NUMBERS], end: usize, slots: &mut [i64; SLOTS]) -> bool
     ensures answers { OnceAnswers t.now end slots.old result }
     ensures kept { slots.new ≡ slots.old }
 {
-    let slot = t[end - FIRST_BACK] as usize;
+    let slot = usize::from(t[end - FIRST_BACK]);
     let low = t[end - node::SIZE - FIRST_BACK];
     let n = t[end - node::SIZE - SECOND_BACK];
     let old = slots[slot];

@@ -93,8 +93,7 @@ pub fn say_accepted(r: &ReadText<'_, '_>, page: &mut Page) {
     }
     let run = match begin(&r.dossier) {
         Beginning::Both(x) => Some(x),
-        Beginning::Concrete(_) => None,
-        Beginning::Nowhere => None,
+        Beginning::Concrete(_) | Beginning::Nowhere => None,
     };
     if run.is_none() {
         page.say(words::NO_CONCRETE_INITIAL_STATE);

@@ -75,6 +75,11 @@ pub fn say_initialisation(r: &ReadText<'_, '_>, c: usize, page: &mut Page) {
 
 // ---- operations
 
+// The next abstract step of a binding from one on, by its number.
+fn next_step(r: &ReadText<'_, '_>, j: usize, x: Bindings, from: usize) -> Option<usize> {
+    abstract_step(&r.dossier, j, x.a, x.i, from).unwrap_or(None)
+}
+
 // A binding with the outputs and the abstract state after of a step by its number, where there are na abstract states.
 fn stepped(x: Bindings, step: usize, na: usize) -> Bindings
     requires { 0 < na }
@@ -111,7 +116,7 @@ pub fn say_applicability(r: &ReadText<'_, '_>, j: usize, place: usize, page: &mu
     let s = spans(&r.dossier, j);
     let x = applied(place, s);
     say_binding(words::REFUTED_APPLICABILITY, j, x, page);
-    if let Some(step) = abstract_step(&r.dossier, j, x.a, x.i, 0).unwrap_or(None) {
+    if let Some(step) = next_step(r, j, x, 0) {
         let holds = stepped(x, step, s.na);
         page.say_at(words::WHAT_HOLDS_OF_APPLICABILITY, j, holds);
     }
@@ -136,15 +141,10 @@ fn corrected(place: usize, s: Widths) -> Bindings
     requires { (0 < s.nc) × (0 < s.ni) × (0 < s.nq) }
 {
     let by_output = place / s.nc;
-    let by_input = by_output / s.nq;
-    let by_concrete = by_input / s.ni;
     Bindings {
-        a: by_concrete / s.nc,
-        c: by_concrete % s.nc,
-        i: by_input % s.ni,
         o: by_output % s.nq,
         k: place % s.nc,
-        b: 0,
+        ..applied(by_output / s.nq, s)
     }
 }
 
@@ -168,8 +168,7 @@ fn say_steps(r: &ReadText<'_, '_>, j: usize, x: Bindings, first: Option<usize>, 
             Pair { a: b, c: x.k },
             page,
         );
-        let step = abstract_step(&r.dossier, j, x.a, x.i, k.saturating_add(1));
-        first_of(step.unwrap_or(None), end)
+        first_of(next_step(r, j, x, k.saturating_add(1)), end)
     };
     say_states(first_of(first, end), say, page);
 }
@@ -177,13 +176,13 @@ fn say_steps(r: &ReadText<'_, '_>, j: usize, x: Bindings, first: Option<usize>, 
 // Which abstract steps there are with these outputs, or one with others.
 fn say_corrected(r: &ReadText<'_, '_>, j: usize, x: Bindings, page: &mut Page) {
     let s = spans(&r.dossier, j);
-    let first = abstract_step(&r.dossier, j, x.a, x.i, product(x.o, s.na)).unwrap_or(None);
+    let first = next_step(r, j, x, product(x.o, s.na));
     if first_of(first, product(x.o.saturating_add(1), s.na)).is_some() {
         page.say(words::ABSTRACT_STEPS);
         say_steps(r, j, x, first, page);
         return;
     }
-    if let Some(q) = abstract_step(&r.dossier, j, x.a, x.i, 0).unwrap_or(None) {
+    if let Some(q) = next_step(r, j, x, 0) {
         let other = stepped(x, q, s.na);
         page.say_at(words::NO_ABSTRACT_STEP_WITH_THESE_OUTPUTS, j, other);
     }

@@ -2,3 +2,4 @@
 pub mod Chains
 pub mod ReachLaws
 pub mod Places
+pub mod BoundNames

@@ -23,7 +23,6 @@ use form_nodes::ranges::{close, domain, end, is_range, range, range_end};
 use form_nodes::{Read, Symbols, kinds};
 use lexical::bounds::DEPTH;
 use lexical::codes;
-use lexical::codes::is_name;
 use refusals::{Fault, Refusal};
 
 // The operator of a level above the given one that stands at a place; the level of the connective, likewise.
@@ -77,13 +76,13 @@ fn operand(y: &Symbols<'_>, from: Read, reach: Reach, code: &mut [u16]) -> Resul
         Start::Bracket => {
             let within = reach.deeper(from.at)?;
             let bracketed = term(y, from.skip(), within, code)?;
-            close(y.kinds, bracketed.at, codes::CLOSE_BRACKET, bracketed.count)
+            close(y.kinds, bracketed, codes::CLOSE_BRACKET)
         }
         Start::Brace => {
             let within = reach.deeper(from.at)?;
             brace(y, from, within, code)
         }
-        Start::Empty => empty(y, from.at, code, from.count),
+        Start::Empty => empty(y, from, code),
     }
 }
 
@@ -144,7 +143,7 @@ fn term_more(
 {
     match o {
         Operator::Division => {
-            let divisor = end(y, from.at + 1, from.count)?;
+            let divisor = end(y, from.skip())?;
             let x = magnitude(y.kinds, y.values, from.at + 1);
             let kind = division(y.kinds, from.at);
             let count = put(code, from.count, shapes::DIVIDED, from.at, x, kind);
@@ -198,20 +197,13 @@ fn such(y: &Symbols<'_>, from: Read, reach: Reach, code: &mut [u16]) -> Result<R
 {
     let within = reach.with_name(from.at + 1)?;
     let g = from.at + 1 + 1 + 1;
-    let k = kind_at(y.kinds, g);
-    if !is_name(k) {
-        return Err(Fault {
-            place: g,
-            refusal: Refusal::NoDossier,
-        });
-    }
-    let bar = close(y.kinds, g + 1, codes::BAR, from.count)?;
+    let over = y.name_at(g)?;
+    let bar = close(y.kinds, Read { at: g + 1, ..from }, codes::BAR)?;
     let body = pred(y, bar, within, code)?;
-    let over = name_number(y.kinds, y.values, g);
     let h = put(code, body.count, shapes::SET, g, over, 0);
     let x = name_number(y.kinds, y.values, from.at + 1);
     let i = put(code, h, shapes::SUCH, from.at, x, 0);
-    close(y.kinds, body.at, codes::CLOSE_BRACE, i)
+    close(y.kinds, Read { count: i, ..body }, codes::CLOSE_BRACE)
 }
 
 // Behind the first term of {t, ..}.
@@ -249,7 +241,7 @@ fn pairs(y: &Symbols<'_>, from: Read, reach: Reach, code: &mut [u16]) -> Result<
     requires { Room y.now.kinds.now code.old from.at from.count }
     ensures { Reads y.now.kinds.now from.at from.count (exact kind.maplet ∷ a_term reach.depth reach.names ∷ a_pairs reach.depth reach.names ∷ []) [] result × Made y.now.kinds.now y.now.values.now some_pairs from.at from.count code.old code.new result }
 {
-    let arrow = close(y.kinds, from.at, codes::MAPLET, from.count)?;
+    let arrow = close(y.kinds, from, codes::MAPLET)?;
     let right = term(y, arrow, reach, code)?;
     match kind_at(y.kinds, right.at) {
         codes::CLOSE_BRACE => {
@@ -319,8 +311,8 @@ fn pred_rest(
 }
 
 // The connective of the level l that stands behind a predicate, and its right side.
-// Form 4: `put` stands twice. With reach and level chosen by an `if` in front of one call (tried), the eight answers behind it are by cases, each with the two
-// that stand here: `deeper` and the promise of `pred_from` are of one branch alone.
+// Form 4: `put` stands twice. With reach and level chosen by an `if` in front of one call (tried), the answers behind it are by cases, each with the two that
+// stand here: `deeper` and the promise of `pred_from` are of one branch alone.
 #[cycle(trees)]
 fn pred_more(
     y: &Symbols<'_>,
@@ -398,7 +390,7 @@ fn paren(y: &Symbols<'_>, from: Read, reach: Reach, code: &mut [u16]) -> Result<
         return quantified(y, from, reach, code);
     }
     let inner = pred(y, from.skip(), reach, code)?;
-    close(y.kinds, inner.at, codes::CLOSE_PAREN, inner.count)
+    close(y.kinds, inner, codes::CLOSE_PAREN)
 }
 
 // Behind ( and a quantifier.
@@ -408,22 +400,17 @@ fn quantified(y: &Symbols<'_>, from: Read, reach: Reach, code: &mut [u16]) -> Re
     ensures { Reads y.now.kinds.now (from.at + 1) (from.count + 4) (a_paren reach.depth reach.names ∷ []) [] result × Made y.now.kinds.now y.now.values.now a_unary from.at from.count code.old code.new result }
 {
     let x = from.at + 1 + 1;
-    if kind_at(y.kinds, x) != codes::PLAIN {
-        return Err(Fault {
-            place: x,
-            refusal: Refusal::NoDossier,
-        });
-    }
+    let name = close(y.kinds, Read { at: x, ..from }, codes::PLAIN)?;
     let within = reach.with_name(x)?;
-    let colon = close(y.kinds, x + 1, codes::COLON, from.count)?;
-    let over = domain(y, colon.at, from.count)?;
-    let spot = close(y.kinds, over.at, codes::SPOT, from.count)?;
+    let colon = close(y.kinds, name, codes::COLON)?;
+    let over = domain(y, colon)?;
+    let spot = close(y.kinds, over, codes::SPOT)?;
     let body = pred(y, spot, within, code)?;
     let h = put_domain(y.kinds, y.values, colon.at, code, body.count);
     let i = name_number(y.kinds, y.values, x);
     let j = kind_at(y.kinds, from.at + 1);
     let c = put(code, h, shapes::QUANTIFIED, from.at + 1, i, u16::from(j));
-    close(y.kinds, body.at, codes::CLOSE_PAREN, c)
+    close(y.kinds, Read { count: c, ..body }, codes::CLOSE_PAREN)
 }
 
 // What stands behind the first term of a predicate.
@@ -468,7 +455,7 @@ fn member(y: &Symbols<'_>, from: Read, reach: Reach, code: &mut [u16]) -> Result
 {
     let k = kind_at(y.kinds, from.at);
     if is_range(y, from.at + 1) {
-        let ends = range(y, from.at + 1, from.count)?;
+        let ends = range(y, from.skip())?;
         let m = put_range(y.kinds, y.values, from.at + 1, code, from.count);
         let count = put(code, m, shapes::WITHIN, from.at, u16::from(k), 0);
         return Ok(Read { count, ..ends });

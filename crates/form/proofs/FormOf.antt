@@ -9,7 +9,9 @@ use lib.Dec.{eqb, ltb}
 use lib.ListN.{length, take, drop, get_or}
 use lib.Seq.{take-suc, take-length}
 use borrow.Author.Tests.{le-ltb, ltb-true, ltb-false, eqb-true, eq-eqb}
-use Rattle.lexical.proofs.BooleanTests.{and_left, and_right, clash, or-false}
+use borrow.Author.Clash.{clash}
+use Rattle.std.proofs.lemmas.Bool.{or_parts}
+use Rattle.lexical.proofs.BooleanTests.{and_left, and_right}
 use Rattle.lexical.specs.Kinds as kind
 use Rattle.lexical.specs.Kinds.{Kind, code_of, is, lookup}
 use Rattle.lexical.specs.Symbols.{Symbol, fixed}
@@ -103,8 +105,8 @@ used-no_colon k w h = and_right (is k kind.open_brace) (not (is (kind_at w 0) ki
 
 fits-mark : {m μ : Mark} {k s : Kind} {v : List Symbol} → Fits m μ k s v → (IsOpens m → is (kind_at v 0) kind.number ≡ false) → (IsBinds m → is (kind_at v 0) kind.colon ≡ true) → m ≡ μ
 fits-mark equal o b = refl
-fits-mark (range_end {k = k} {s = s} {w = w} h) o b = absurd (clash (range-number k s w h) (o tt))
-fits-mark (used_name {k = k} {w = w} h) o b = absurd (clash (used-no_colon k w h) (ap not (b tt)))
+fits-mark (range_end {k = k} {s = s} {w = w} h) o b = clash _ (range-number k s w h) (o tt)
+fits-mark (used_name {k = k} {w = w} h) o b = clash _ (used-no_colon k w h) (ap not (b tt))
 
 -- the first symbol opens and counts nothing, in the machine and in every dossier
 first-unmarked : (k : Kind) → go_mark (step initial k) ≡ unmarked
@@ -148,12 +150,12 @@ not-before j i s r h g = ap (λ (x : Bool). x || eqb j i && ltb (number_of s) (n
 same_place : (i j : ℕ) (r s : Refusal) → before (fault i r) (fault j s) ≡ false → (j ≤ i) × (i ≡ j → number_of s ≤ number_of r)
 unfolding before
 same_place i j r s h =
-    let p = or-false (ltb i j) (eqb i j && ltb (number_of r) (number_of s)) h in
+    let p = or_parts (ltb i j) (eqb i j && ltb (number_of r) (number_of s)) h in
     (ltb-false i j p.0, λ e. on (eqb i j) (eq-eqb i j e) p.1)
   where
     on : (t : Bool) → t ≡ true → (t && ltb (number_of r) (number_of s)) ≡ false → number_of s ≤ number_of r
     on true e q = ltb-false (number_of r) (number_of s) q
-    on false e q = absurd (clash e refl)
+    on false e q = clash false e refl
 
 both : (i j : ℕ) (r s : Refusal) → before (fault i r) (fault j s) ≡ false → before (fault j s) (fault i r) ≡ false → (i ≡ j) × (r ≡ s)
 both i j r s a b =
@@ -199,7 +201,7 @@ faulty w z j γ r h f (cannot_end q e) =
       inside = h;
       first = viable (take j w) γ (spelled-take w z j) f;
       fault_at_symbol = λ l. absurd (omega arith);
-      at_end = λ q₁ d wh. clash (at-end w d wh γ (ap (λ (u : List Symbol). feed u initial) (sym (ap (λ (n : ℕ). take n w) q ∙ take-length w)) ∙ f)) e;
+      at_end = λ q₁ d wh. clash _ (at-end w d wh γ (ap (λ (u : List Symbol). feed u initial) (sym (ap (λ (n : ℕ). take n w) q ∙ take-length w)) ∙ f)) e;
     })
 faulty w z j γ r h f (over m ρ l e q) =
     let c : Continues (take j w) (get_or w j (fixed kind.END)) m = continues (take j w) (get_or w j (fixed kind.END)) m γ ρ (spelled-take w z j) (spelled_at w z j) f (unfold kind_at in e) in

@@ -4,6 +4,7 @@ use mathlib.Core.Bool.{Bool, true, false}
 use mathlib.Core.List.{List, ◌∷◌}
 use mathlib.Core.Option.{Option, none, some}
 use Prim.Native.Nat.{ℕ, zero, suc, ◌≤◌, ◌<◌}
+use borrow.Author.Tests.{le-leb, lt-leb}
 use Rattle.lexical.specs.Kinds as kind
 use Rattle.lexical.specs.Kinds.{is, lookup, code_of}
 use Rattle.lexical.specs.Symbols.{no_ending, Symbol, fixed}
@@ -15,7 +16,7 @@ use Rattle.form.specs.Form.{kind_at, connective_level, right_level}
 use Rattle.form.specs.Parse.{got, parse_term, parse_pred, parse_pred_rest, parse_unary, parse_paren, parse_atom, parse_range, parse_domain, is_range}
 use Rattle.form.specs.Parse.{connectives, quantifiers, is_term, begins, compares, contains, maps, relations}
 use Rattle.form.proofs.Takes.{symbols_in}
-use Rattle.form.proofs.ParseSteps.{leb-true, leb-false, first_of, is_name_kind, name-kind, reads-range}
+use Rattle.form.proofs.ParseSteps.{first_of, is_name_kind, name-kind, reads-range}
 
 -- a predicate is one before connectives and what goes on behind it
 pub pred-begins : (f l : ℕ) (p : Pred) (v w : List Symbol) → parse_unary f v ≡ got p w → parse_pred (suc f) l v ≡ parse_pred_rest f l p w
@@ -35,7 +36,7 @@ pred-stops (suc f) l p w h = go (lookup connectives none (first_of w)) refl h
   where
     go : (i : Option Connective) → lookup connectives none (first_of w) ≡ i → join_level i < l → parse_pred_rest (suc f) l p w ≡ got p w
     go none e g = rw (parse_pred_rest, e)
-    go (some o) e g = rw (parse_pred_rest, e, leb-false l (connective_level o) g)
+    go (some o) e g = rw (parse_pred_rest, e, lt-leb l (connective_level o) g)
 
 pub join-connective : (o : Connective) → lookup connectives none (connective_kind o) ≡ some o
 unfolding lookup is code_of
@@ -47,7 +48,7 @@ join-connective iff = refl
 pub rest-connective : (o : Connective) (f l : ℕ) (p q : Pred) (v w : List Symbol) → l ≤ connective_level o → parse_pred f (right_level o) v ≡ got q w
     → parse_pred_rest (suc f) l p (fixed (connective_kind o) ∷ v) ≡ parse_pred_rest f l (connected o p q) w
 unfolding parse_pred_rest kind_at
-rest-connective o f l p q v w h e = rw (parse_pred_rest, join-connective o, leb-true l (connective_level o) h, e)
+rest-connective o f l p q v w h e = rw (parse_pred_rest, join-connective o, le-leb l (connective_level o) h, e)
 
 -- What a predicate begins with, before connectives: `true`, `false`, `not`, (, a term.
 pub unary-true : (f : ℕ) (w : List Symbol) → parse_unary (suc f) (fixed kind.TRUE ∷ w) ≡ got truth w

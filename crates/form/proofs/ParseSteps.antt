@@ -3,8 +3,7 @@ use mathlib.Core.Path.{◌≡◌, refl}
 use mathlib.Core.Bool.{Bool, true, false, ◌&&◌}
 use mathlib.Core.List.{List, [], ◌∷◌}
 use Prim.Native.Nat.{ℕ, zero, suc, ◌≤◌, ◌<◌}
-use native.Mathlib.Omega.{arith}
-use lib.Dec.{leb, T, le→leb, leb→le}
+use borrow.Author.Tests.{le-leb, lt-leb}
 use lib.ListN.{get_or}
 use Rattle.lexical.specs.Kinds as kind
 use Rattle.lexical.specs.Kinds.{Kind, is, lookup, code_of}
@@ -17,19 +16,6 @@ use Rattle.form.specs.Form.{kind_at, operator_level, division_level}
 use Rattle.form.specs.Parse.{got, parse_term, parse_term_rest, parse_operand, parse_brace, parse_items, parse_pairs, parse_pred, parse_end, parse_range, parse_empty}
 use Rattle.form.specs.Parse.{a_name, a_prefix, starts, Infix, between, divides, not_infix, infixes}
 use Rattle.form.proofs.Takes.{symbols_in}
-use Rattle.lexical.proofs.BooleanTests.{not-true}
-
--- a test as a path
-T→true : (b : Bool) → T b → b ≡ true
-T→true true t = refl
-T→true false t = absurd t
-
--- an order that holds passes its test, and one that does not fails it
-pub leb-true : (m n : ℕ) → m ≤ n → leb m n ≡ true
-leb-true m n h = T→true (leb m n) (le→leb m n h)
-
-pub leb-false : (m n : ℕ) → n < m → leb m n ≡ false
-leb-false m n h = not-true (leb m n) (λ e. let g : m ≤ n = leb→le m n (rw e tt) in omega arith)
 
 -- the kind of the first symbol, the end counting as `end`
 abbrev pub first_of : List Symbol → Kind
@@ -57,8 +43,8 @@ rest-stops zero l t w h = refl
 rest-stops (suc f) l t w h = go (lookup infixes not_infix (first_of w)) refl h
   where
     go : (i : Infix) → lookup infixes not_infix (first_of w) ≡ i → infix_level i < l → parse_term_rest (suc f) l t w ≡ got t w
-    go (between o) e g = rw (parse_term_rest, e, leb-false l (operator_level o) g)
-    go (divides o) e g = rw (parse_term_rest, e, leb-false l division_level g)
+    go (between o) e g = rw (parse_term_rest, e, lt-leb l (operator_level o) g)
+    go (divides o) e g = rw (parse_term_rest, e, lt-leb l division_level g)
     go not_infix e g = rw (parse_term_rest, e)
 
 infix_operator : (o : Operator) → lookup infixes not_infix (operator_kind o) ≡ between o
@@ -78,12 +64,12 @@ infix-division remainder = refl
 pub rest-operator : (o : Operator) (f l : ℕ) (t u : Term) (v w : List Symbol) → l ≤ operator_level o → parse_term f (suc (operator_level o)) v ≡ got u w
     → parse_term_rest (suc f) l t (fixed (operator_kind o) ∷ v) ≡ parse_term_rest f l (binary o t u) w
 unfolding parse_term_rest kind_at
-rest-operator o f l t u v w h e = rw (parse_term_rest, infix_operator o, leb-true l (operator_level o) h, e)
+rest-operator o f l t u v w h e = rw (parse_term_rest, infix_operator o, le-leb l (operator_level o) h, e)
 
 pub rest-division : (o : Division) (f l : ℕ) (t : Term) (n : End) (v w : List Symbol) → l ≤ division_level → parse_end v ≡ got n w
     → parse_term_rest (suc f) l t (fixed (division_kind o) ∷ v) ≡ parse_term_rest f l (divided o t n) w
 unfolding parse_term_rest kind_at
-rest-division o f l t n v w h e = rw (parse_term_rest, infix-division o, leb-true l division_level h, e)
+rest-division o f l t n v w h e = rw (parse_term_rest, infix-division o, le-leb l division_level h, e)
 
 -- an end of a range, and a range
 end_reads : (b : Bool) (n : ℕ) (w : List Written) → parse_end (symbols_in (minus_of b (digits n ∷ w))) ≡ got (record { negative = b; magnitude = n }) (symbols_in w)

@@ -132,11 +132,6 @@ pub spelled-append : (u w : List Symbol) → AllSpelled u → AllSpelled w → A
 spelled-append [] w p q = q
 spelled-append (s ∷ u) w p q = (p.0, spelled-append u w p.1 q)
 
--- both parts of spelled symbols
-pub spelled-parts : (u w : List Symbol) → AllSpelled (u ++ w) → AllSpelled u × AllSpelled w
-spelled-parts [] w h = (tt, h)
-spelled-parts (s ∷ u) w h = let r = spelled-parts u w h.1 in ((h.0, r.0), r.1)
-
 -- what a symbol carries beside its kind: a number its value, a name its letters
 abbrev pub carried : (is_fixed is_number : Bool) → Type 0
 carried true b = Unit {0}

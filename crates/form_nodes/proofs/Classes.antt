@@ -12,9 +12,13 @@ use Rattle.lexical.specs.Kinds as kind
 use Rattle.lexical.specs.Kinds.{Kind, code_of, is, lookup}
 use Rattle.lexical.specs.SymbolPromises.{is_name}
 use Rattle.lexical.proofs.NameCodes.{name-low, name-high, no-name}
-use Rattle.form_nodes.specs.FormPromises.{Classes, Starts, StartCode, StartOf, start_as, level_of, bit, Named}
+use Rattle.form_nodes.specs.FormPromises.{Classes, Starts, StartCode, StartOf, start_as, level_of, bit, Named, pred_starts, start_class, Begins, relations, relation_class, Relates}
 use Rattle.form.specs.Machine.{starts, nothing}
 use Rattle.form_nodes.specs.declared.kinds.Start.{Start}
+use Rattle.form_nodes.specs.declared.kinds.PredStart.{PredStart}
+use Rattle.form_nodes.specs.declared.kinds.PredStart.TheVariants.{Truth, Negation, Paren, Term}
+use Rattle.form_nodes.specs.declared.kinds.Relation.{Relation}
+use Rattle.form_nodes.specs.declared.kinds.Relation.TheVariants.{Comparison, Membership, Pairing}
 use Rattle.form.proofs.Table.{Each, kinds, kind_in, kind-back, is-equal}
 
 -- k is the code of no entry
@@ -72,17 +76,17 @@ span f v lo (suc n) h k a b = on (eqb k lo) refl (λ x y. span f v (suc lo) n h.
     on true q r = ap f (eqb-true k lo q) ∙ h.0
     on false q r = let ne : k ≡ lo → ⊥ = eqb-false k lo q in r (omega arith) (omega arith)
 
--- an arm for the codes from lo on; the arm for all other codes
+-- an arm for the codes from lo on, and below the arm for all other codes
 pub spanned : {t : List (Kind × ℕ)} {k v : ℕ} (lo n : ℕ) → Same (λ (j : ℕ). lookup t 0 (kind_in kinds j)) v lo n → lo ≤ k → k < lo + n → (v ≤ 9) × (v ≤ 9 * k) → Classes t k v
 spanned {t} {k} {v} lo n h a b l =
     record { none = l.1; small = l.0; class = λ κ q. ap (lookup t 0) (told κ q) ∙ span (λ (j : ℕ). lookup t 0 (kind_in kinds j)) v lo n h k a b }
 
+-- an arm for one code
+pub alone : {t : List (Kind × ℕ)} {k n v : ℕ} → k ≡ n → lookup t 0 (kind_in kinds n) ≡ v → (v ≤ 9) × (v ≤ 9 * n) → Classes t k v
+alone {t} q e l = record { none = let z = l.1 in omega arith; small = l.0; class = λ κ p. ap (lookup t 0) (told κ (p ∙ q)) ∙ e }
+
 pub missed : {t : List (Kind × ℕ)} {k : ℕ} → Misses k t → Classes t k 0
 missed {t} {k} m = record { none = omega arith; small = omega arith; class = λ κ q. lookup-miss t 0 κ (subst (λ (j : ℕ). Misses j t) (sym q) m) }
-
--- a class is at most nine times the code
-pub class-code : {t : List (Kind × ℕ)} {k r v : ℕ} → Classes t k r → r ≡ v → v ≤ 9 * k
-class-code {k = k} h q = subst (λ (x : ℕ). x ≤ 9 * k) q h.none
 
 -- a class by a test that is known
 pub no-class : {t : List (Kind × ℕ)} {k : ℕ} {r : Bool} → Classes t k (bit r) → r ≡ false → (κ : Kind) → code_of κ ≡ k → lookup t 0 κ ≡ 0
@@ -110,8 +114,30 @@ pub started : {k : ℕ} {r : Start} (lo n : ℕ) → Same (λ (j : ℕ). lookup 
 started {k} {r} lo n h a b c =
     record { code = c; start = λ κ q. ap (lookup starts nothing) (told κ q) ∙ span (λ (j : ℕ). lookup starts nothing (kind_in kinds j)) (start_as r) lo n h k a b }
 
+pub started_by : {k n : ℕ} {r : Start} → k ≡ n → lookup starts nothing (kind_in kinds n) ≡ start_as r → StartCode k r → Starts k r
+started_by q e c = record { code = c; start = λ κ p. ap (lookup starts nothing) (told κ (p ∙ q)) ∙ e }
+
 pub unstarted : {k : ℕ} → Misses k starts → StartOf k None
 unstarted m κ q = lookup-miss starts nothing κ (subst (λ (j : ℕ). Misses j starts) (sym q) m)
+
+-- what begins a predicate, and what stands behind its first term, with the codes of those that are asked for
+abbrev pub BeginCode : ℕ → PredStart → Type 0
+BeginCode k Truth = Unit {0}
+BeginCode k Negation = Unit {0}
+BeginCode k Paren = k ≡ 15
+BeginCode k Term = Unit {0}
+
+pub begins : {k : ℕ} {r : PredStart} → Classes pred_starts k (start_class r) → BeginCode k r → Begins k r
+begins {k} c h = record { classes = c; paren = λ q. subst (BeginCode k) q h }
+
+abbrev pub RelationCode : ℕ → Option Relation → Type 0
+RelationCode k None = Unit {0}
+RelationCode k (Some Comparison) = Unit {0}
+RelationCode k (Some Membership) = (56 ≤ k) × (k ≤ 57)
+RelationCode k (Some Pairing) = k ≡ 32
+
+pub relates : {k : ℕ} {r : Option Relation} → Classes relations k (relation_class r) → RelationCode k r → Relates k r
+relates {k} c h = record { classes = c; member = λ q. subst (RelationCode k) q h; maplet = λ q. subst (RelationCode k) q h }
 
 -- what begins a term, or that none begins, by what `start_of` answers
 pub begun : {k : ℕ} {r : Option Start} {v : Start} → r ≡ Some v → StartOf k r → Starts k v

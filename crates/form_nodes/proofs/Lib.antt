@@ -5,6 +5,7 @@ pub mod ItemSteps
 pub mod RangeEnds
 pub mod SameSteps
 pub mod RightSides
+pub mod ReadNames
 pub mod NodeWrites
 pub mod NodeNumbers
 pub mod SymbolSpans

@@ -6,14 +6,15 @@ use native.Mathlib.Omega.{arith}
 use lib.ListN.{take, get_or}
 use Rattle.lexical.specs.Kinds.{Kind, code_of, lookup, is}
 use Rattle.form.specs.Codes.{node}
-use Rattle.form_nodes.specs.FormPromises.{Writes, Closes, Shown, Starts, Classes, level_of}
-use Rattle.form_nodes.specs.Derivations.{Part, a_pred_from, a_unary, Derives, quantified, MadeAt, Made, NameAt, MemberAt, DomainAt, domain_node, name_code}
+use Rattle.form_nodes.specs.FormPromises.{Writes, Closes, Missed, Shown, Starts, Classes, level_of}
+use Rattle.form_nodes.specs.Derivations.{Part, a_pred_from, a_unary, Derives, quantified, MadeAt, Made, MemberAt, DomainAt, domain_node, name_code}
 use Rattle.std.specs.Prelude.{Ok, Err}
+use Rattle.refusals.specs.declared.Fault.{Fault}
 use Rattle.form_nodes.specs.declared.Read.{Read}
 use Rattle.form_nodes.specs.FormPromises.{Answer}
 use Rattle.form_nodes.specs.declared.kinds.Start.{Start}
 use Rattle.form_nodes.specs.declared.kinds.Start.TheVariants.{Leaf}
-use Rattle.form_nodes.proofs.Classes.{started}
+use Rattle.form_nodes.proofs.Classes.{started_by}
 
 -- the numbers x stand in b behind the first n numbers of a, up to the number m
 pub record Built (n : ℕ) (a x : List ℕ) (m : ℕ) (b : List ℕ) : Type 0 where
@@ -75,9 +76,12 @@ module _ {s ν : List ℕ} where
       (λ g. quantified p lo hi x q.1 g y.1 (from y.0 d) z)
       o
 
--- what a symbol shows whose result is known
-pub closed : {s : List ℕ} {i k n : ℕ} {j : Read} {r : Answer} → r ≡ Ok j → Closes s i k n r → (j.at ≡ i + 1) × (get_or s i 0 ≡ k)
-closed {s} {i} {k} {n} q h = (subst (λ (x : Answer). Shown (λ (e : ℕ). (e ≡ i + 1) × (get_or s i 0 ≡ k)) n x) q h.shown).0
+-- one symbol that was read, or missed
+pub closed : {s : List ℕ} {at k n : ℕ} {e : Read} {r : Answer} → r ≡ Ok e → Closes s at k n r → ((e.at ≡ at + 1) × (get_or s at 0 ≡ k)) × (e.count ≡ n)
+closed {s} {at} {k} {n} q h = subst (λ (z : Answer). Shown (λ (e : ℕ). (e ≡ at + 1) × (get_or s at 0 ≡ k)) n z) q h.shown
+
+pub unclosed : {s : List ℕ} {at k n : ℕ} {f : Fault} {r : Answer} → r ≡ Err f → Closes s at k n r → Missed s at k (Err f)
+unclosed {s} {at} {k} q h = subst (λ (z : Answer). Missed s at k z) q h.missed
 
 pub showing : {j : Read} {r : Answer} (P : ℕ → Type 0) (n : ℕ) → r ≡ Ok j → Shown P n r → P j.at
 showing P n q h = (subst (λ (x : Answer). Shown P n x) q h).0
@@ -91,10 +95,7 @@ class-at {t} {k} {v = v} e q h = subst (λ (x : ℕ). Classes t x v) e (subst (�
 
 pub number-start : {k : ℕ} → k ≡ 1 → Starts k Leaf
 unfolding code_of lookup is
-number-start q = started 1 1 (refl, tt) (omega arith) (omega arith) (omega arith)
-
-pub named-at : {s : List ℕ} {i k : ℕ} → k ≡ get_or s i 0 → (2 ≤ k) × (k ≤ 5) → NameAt s i
-named-at e h = let l = h.0 in let m = h.1 in record { low = omega arith; high = omega arith }
+number-start q = started_by q refl (omega arith)
 
 pub membership-at : {s : List ℕ} {i k : ℕ} → k ≡ get_or s i 0 → (56 ≤ k) × (k ≤ 57) → MemberAt s i
 membership-at e h = let l = h.0 in let m = h.1 in record { low = omega arith; high = omega arith }

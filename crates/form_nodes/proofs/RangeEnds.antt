@@ -1,6 +1,6 @@
 -- A - after in or notin, by the codes of the symbols around it.
 use mathlib.Core.Path.{◌≡◌, refl, ap, ◌∙◌, sym, subst}
-use mathlib.Core.Bool.{Bool, true, false, cond, not, ◌&&◌, ◌||◌, false≢true}
+use mathlib.Core.Bool.{Bool, true, false, cond, not, ◌&&◌, ◌||◌, beq, false≢true}
 use mathlib.Core.List.{List, [], ◌∷◌}
 use mathlib.Core.Option.{Option, none, some}
 use Prim.Native.Nat.{ℕ, zero, suc, ◌+◌, ◌-◌, ◌≤◌, ◌<◌}
@@ -15,7 +15,8 @@ use Rattle.lexical.specs.Kinds as kind
 use Rattle.lexical.specs.Kinds.{Kind, code_of, lookup, is}
 use Rattle.lexical.specs.Symbols.{Symbol, fixed, kind_of}
 use Rattle.refusals.specs.Refusals.{Refusal, deep}
-use Rattle.form.proofs.LexicalBooleanTests.{both-true, and-right-false}
+use Rattle.std.proofs.lemmas.Bool.{and_parts, and_right}
+use Rattle.form.proofs.LexicalBooleanTests.{beq-true}
 use Rattle.form.specs.Written.{opens, binds}
 use Rattle.form.specs.Form.{kind_at, is_range_end, is_used, settled, excess, refuse}
 use Rattle.form_nodes.specs.FormPromises.{codes, range_end_at, RangeEnd, range_below, Members, Ranged, positive, negative, unranged}
@@ -39,18 +40,9 @@ kind-behind : (w : List Symbol) (m i : ℕ) → kind_at (drop m w) i ≡ kind_at
 unfolding kind_at
 kind-behind w m i = ap kind_of (get_or-drop m w i (fixed kind.END))
 
-abbrev same : Bool → Bool → Bool
-same a b = cond a b (not b)
-
-same-equal : (a b : Bool) → same a b ≡ true → a ≡ b
-same-equal true true q = refl
-same-equal true false q = sym q
-same-equal false true q = q
-same-equal false false q = refl
-
 member-code : (κ : Kind) → (is κ kind.IN || is κ kind.NOTIN) ≡ (leb 56 (code_of κ) && leb (code_of κ) 57)
 unfolding is code_of all
-member-code κ = same-equal _ _ (every-kind (λ (j : Kind). same (is j kind.IN || is j kind.NOTIN) (leb 56 (code_of j) && leb (code_of j) 57)) κ refl refl)
+member-code κ = beq-true _ _ (every-kind (λ (j : Kind). beq (is j kind.IN || is j kind.NOTIN) (leb 56 (code_of j) && leb (code_of j) 57)) κ refl refl)
 
 pub range-test : (w : List Symbol) {s : List ℕ} → codes w ≡ s → (at : ℕ) → is_range_end (kind_before kind.END w at) (kind_at w at) (drop (suc at) w) ≡ range_end_at s at
 unfolding is_range_end range_end_at is code_of
@@ -82,8 +74,8 @@ no_third false b y z = refl
 pub below-parts : (s : List ℕ) (at : ℕ) → range_below s at ≡ true → (get_or s at 0 ≡ 29) × ((get_or s (at + 1) 0 ≡ 1) × (get_or s (at + 2) 0 ≡ 21))
 unfolding range_below
 below-parts s at q =
-    let a = both-true (eqb (get_or s at 0) 29 && eqb (get_or s (at + 1) 0) 1) (eqb (get_or s (at + 2) 0) 21) q in
-    let b = both-true (eqb (get_or s at 0) 29) (eqb (get_or s (at + 1) 0) 1) a.0 in
+    let a = and_parts (eqb (get_or s at 0) 29 && eqb (get_or s (at + 1) 0) 1) (eqb (get_or s (at + 2) 0) 21) q in
+    let b = and_parts (eqb (get_or s at 0) 29) (eqb (get_or s (at + 1) 0) 1) a.0 in
     (eqb-true (get_or s at 0) 29 b.0, (eqb-true (get_or s (at + 1) 0) 1 b.1, eqb-true (get_or s (at + 2) 0) 21 a.1))
 
 pub below-holds : (s : List ℕ) (at : ℕ) → get_or s at 0 ≡ 29 → get_or s (at + 1) 0 ≡ 1 → get_or s (at + 2) 0 ≡ 21 → range_below s at ≡ true
@@ -252,7 +244,7 @@ pub bound-deep : (s : List ℕ) (p n : ℕ) → 3 < n → get_or s (p + 1 + 1) 0
 unfolding settled
 bound-deep s p n h b = behind s p (λ k j v. settled k j v (binds n) ≡ some deep) (λ w q.
     ap (λ (x : Bool). cond x none (excess (binds n)))
-    (used-test w q p ∙ ap (λ (x : Bool). eqb (get_or s p 0) 19 && not x) (eq-eqb (get_or s (p + 1 + 1) 0) 10 b) ∙ and-right-false (eqb (get_or s p 0) 19) false refl)
+    (used-test w q p ∙ ap (λ (x : Bool). eqb (get_or s p 0) 19 && not x) (eq-eqb (get_or s (p + 1 + 1) 0) 10 b) ∙ and_right (eqb (get_or s p 0) 19) false refl)
     ∙ bind-over n h)
 
 -- behind anything but {

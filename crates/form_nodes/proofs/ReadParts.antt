@@ -13,7 +13,8 @@ use borrow.Author.Tests.{ltb-true, ltb-false}
 use Rattle.lexical.specs.Kinds as kind
 use Rattle.lexical.specs.Kinds.{Kind, code_of}
 use Rattle.lexical.specs.Symbols.{Symbol, fixed, kind_of}
-use Rattle.refusals.specs.Refusals.{Refusal, no_dossier, deep}
+use Rattle.refusals.specs.Refusals.{Refusal, no_dossier}
+use Rattle.refusals.specs.RefusalNames.{refusal_is}
 use Rattle.form.specs.Written.{Mark, unmarked}
 use Rattle.form.specs.Form.{kind_at, settled}
 use Rattle.form.specs.Machine.{Item, Next, go, halt, step, ends, complete, failed, unless_over, onward, run_from}
@@ -24,7 +25,8 @@ use Rattle.std.proofs.lemmas.Result.{err_from_is_err_and}
 use Rattle.form_nodes.specs.declared.Read.{Read}
 use Rattle.form_nodes.specs.FormPromises.{Answer}
 use Rattle.refusals.specs.declared.Fault.{Fault}
-use Rattle.refusals.specs.declared.Refusal.TheVariants.{NoDossier, Deep}
+use Rattle.refusals.specs.declared.Refusal as declared
+use Rattle.refusals.specs.declared.Refusal.TheVariants.{NoDossier}
 use Rattle.form.proofs.Table.{kinds, kind_in, kind-back}
 
 -- what a `?` returns where a part is at fault
@@ -68,7 +70,7 @@ count-step at n m (Err f) l h = tt
 abbrev pub Within : List ℕ → ℕ → (Kind → Kind → List Symbol → Type 0) → Type 0
 Within s at P = (w : List Symbol) → codes w ≡ s → P (kind_before kind.END w at) (kind_at w at) (drop (suc at) w)
 
-pub step-at : (s : List ℕ) (at : ℕ) (ι : List Item) (w : List Symbol) → codes w ≡ s → at < length s → (x : List Item → Next)
+step-at : (s : List ℕ) (at : ℕ) (ι : List Item) (w : List Symbol) → codes w ≡ s → at < length s → (x : List Item → Next)
     → ((κ : Kind) → code_of κ ≡ get_or s at 0 → (γ : List Item) → step (ι ++ γ) κ ≡ x γ) → (γ : List Item)
     → run_at w at (ι ++ γ) ≡ onward (x γ) (settled (kind_before kind.END w at) (kind_at w at) (drop (suc at) w)) at (run_at w (suc at))
 step-at s at ι w q l x h γ =
@@ -97,10 +99,10 @@ module _ {s : List ℕ} {at n : ℕ} {ι ο : List Item} where
   unfolding settled
   takes l h a c = taken unmarked l (λ w q. refl) h a c
 
-  -- a symbol's mark counts too much
-  pub deeper : {ρ : List Item → List Item} (x : Mark) → at < length s → Within s at (λ k j v. settled k j v x ≡ some deep)
-      → ((κ : Kind) → code_of κ ≡ get_or s at 0 → (γ : List Item) → step (ι ++ γ) κ ≡ go x (ρ γ)) → Reads s at n ι ο (Err (record { place = at; refusal = Deep }))
-  deeper {ρ} x l f h =
+  -- a symbol's mark counts too much: one level too deep, or one declared too many
+  pub refused : {ρ : List Item → List Item} {o : declared.Refusal} (x : Mark) → at < length s → Within s at (λ k j v. settled k j v x ≡ some (refusal_is o))
+      → ((κ : Kind) → code_of κ ≡ get_or s at 0 → (γ : List Item) → step (ι ++ γ) κ ≡ go x (ρ γ)) → Reads s at n ι ο (Err (record { place = at; refusal = o }))
+  refused {ρ} x l f h =
       record {
         from = omega arith;
         within = omega arith;

@@ -1,16 +1,30 @@
 -- What stands from one symbol up to another, by what was read there.
 use mathlib.Core.Path.{◌≡◌, ◌∙◌, sym, subst}
-use mathlib.Core.Bool.{Bool, true}
+use mathlib.Core.Bool.{Bool, true, false, false≢true}
 use mathlib.Core.List.{List}
-use Prim.Native.Nat.{ℕ, ◌+◌, ◌≤◌}
+use Prim.Native.Nat.{ℕ, ◌+◌, ◌≤◌, ◌<◌}
 use native.Mathlib.Omega.{arith}
-use lib.ListN.{get_or}
-use Rattle.form.specs.Codes.{node}
-use Rattle.form_nodes.specs.FormPromises.{Shown, Named, Writes}
-use Rattle.form_nodes.specs.Derivations.{name_code, NameAt, EndAt, positive, negative, RangeAt, ranges, Part, an_operand, Derives, empty_one, empty_two, MadeAt}
-use Rattle.std.specs.Prelude.{Ok, Err}
+use denote.Bor.{Bor}
+use lib.Dec.{eqb, ltb}
+use lib.ListN.{length, get_or}
+use borrow.Author.Tests.{eqb-true, eqb-false, ltb-true, ltb-false}
+use Rattle.std.specs.Option.{is_some, unwrap_or, option_map, option_eq}
+use Rattle.form_nodes.specs.FormPromises.{Shown, Named}
+use Rattle.form_nodes.specs.Derivations.{NameAt, EndAt, positive, negative, RangeAt, ranges}
+use Rattle.std.specs.Prelude.{Option, Some, None, Ok, Err}
 use Rattle.form_nodes.specs.declared.Read.{Read}
 use Rattle.form_nodes.specs.FormPromises.{Answer}
+
+-- what is found at a place by `get`, compared with a code
+pub code-found : (s : List ℕ) (i : ℕ) (r : Option (Bor ℕ)) (k : Bor ℕ) → is_some r ≡ ltb i (length s)
+    → unwrap_or (option_map (λ x. x.now) r) 0 ≡ get_or s i 0 → option_eq (λ x y. eqb x.now y.now) r (Some k) ≡ true → (i < length s) × (get_or s i 0 ≡ k.now)
+code-found s i None k e h q = absurd (false≢true q)
+code-found s i (Some x) k e h q = (ltb-true i (length s) (sym e), sym h ∙ eqb-true x.now k.now q)
+
+pub code-missed : (s : List ℕ) (i : ℕ) (r : Option (Bor ℕ)) (k : Bor ℕ) → is_some r ≡ ltb i (length s)
+    → unwrap_or (option_map (λ x. x.now) r) 0 ≡ get_or s i 0 → option_eq (λ x y. eqb x.now y.now) r (Some k) ≡ false → i < length s → get_or s i 0 ≡ k.now → ⊥
+code-missed s i None k e h q = λ l g. let z = ltb-false i (length s) (sym e) in absurd (omega arith)
+code-missed s i (Some x) k e h q = λ l g. eqb-false x.now k.now q (h ∙ g)
 
 -- the symbol of the code k, at a place
 abbrev pub OneOf : List ℕ → (at k : ℕ) → ℕ → Type 0
@@ -37,17 +51,3 @@ whole-range s at n e f (Err g) a b h = tt
 
 pub name-at : {s : List ℕ} {i k : ℕ} {r : Bool} → k ≡ get_or s i 0 → Named k r → r ≡ true → NameAt s i
 name-at q h f = let l : (2 ≤ _) × (_ ≤ 5) = h.name f in record { low = omega arith; high = omega arith }
-
--- a part whose nodes are one that was written
-pub made_one : {s ν a b : List ℕ} {x : Part} {i j n m : ℕ} {y : List ℕ} → Derives s ν x i j y → Writes a n y b m → MadeAt s ν x i n a b j m
-made_one {y = y} d h = record { nodes = y; derives = d; written = h.nodes }
-
-pub empty-one : {s ν a b : List ℕ} {i n m x : ℕ} → get_or s i 0 ≡ 47 → NameAt s (i + 1) → x ≡ name_code s ν (i + 1) → Writes a n (node 9 i x 0) b m
-    → MadeAt s ν an_operand i n a b (i + 1 + 1) m
-empty-one {a = a} {b} {i} {n} {m} q g e h = made_one (empty_one q g) (subst (λ (z : ℕ). Writes a n (node 9 i z 0) b m) e h)
-
-pub empty-two : {s ν a b : List ℕ} {i n m x y : ℕ} → get_or s i 0 ≡ 47 → NameAt s (i + 1) → NameAt s (i + 1 + 1) → x ≡ name_code s ν (i + 1)
-    → y ≡ name_code s ν (i + 1 + 1) → Writes a n (node 10 i x y) b m → MadeAt s ν an_operand i n a b (i + 1 + 1 + 1) m
-empty-two {s} {ν} {a} {b} {i} {n} {m} {x} q g h e f w =
-    made_one (empty_two q g h)
-    (subst (λ (z : ℕ). Writes a n (node 10 i z (name_code s ν (i + 1 + 1))) b m) e (subst (λ (z : ℕ). Writes a n (node 10 i x z) b m) f w))

@@ -1,11 +1,13 @@
 -- What the form pass reads, by the codes s and the values ν of the symbols, and the nodes that it leaves of it. The trees that these are the nodes of are parser/proofs/DerivedTrees.
 -- Nothing here need be believed.
-use Rattle.std.specs.Prelude.{◌≡◌, Bool, false, cond, List, [], ◌++◌, ℕ, ◌+◌, ◌-◌, ◌*◌, ◌≤◌, ◌<◌, eqb, ltb, leb, length, take, get_or, Ok, Err, Option, Some, None}
+use Rattle.std.specs.Prelude.{◌≡◌, Bool, false, cond, List, [], ◌++◌, ℕ, ◌+◌, ◌-◌, ◌*◌, ◌≤◌, ◌<◌, eqb, ltb, leb, length, take, get_or, Result, Ok, Err, Option, Some, None}
 use Rattle.lexical.specs.Kinds.{Kind, code_of, lookup}
 use Rattle.form.specs.Codes.{node}
 use Rattle.form_nodes.specs.FormPromises.{Answer, Classes, Starts, operators, connectives, pred_starts, relations, operator_number, level_of}
 use Rattle.form_nodes.specs.declared.kinds.Start.TheVariants.{Leaf, Prefix}
 use Rattle.form_nodes.specs.declared.kinds.Operator.{Operator}
+use Rattle.refusals.specs.declared.Fault.{Fault}
+use Rattle.refusals.specs.declared.Refusal.TheVariants.{NoDossier}
 
 -- the number of the name at a symbol; 0 where none can stand
 unfoldable pub name_code : (s ν : List ℕ) → ℕ → ℕ
@@ -49,6 +51,11 @@ pub record NameAt (s : List ℕ) (i : ℕ) : Type 0 where
 pub record MemberAt (s : List ℕ) (i : ℕ) : Type 0 where
   pub low : 56 ≤ get_or s i 0
   pub high : get_or s i 0 ≤ 57
+
+-- the number of the name at a symbol, or a fault there where none stands
+pub data NameRead (s ν : List ℕ) (i : ℕ) : Result ℕ Fault → Type 0 where
+  name_there : {x : ℕ} → NameAt s i → x ≡ name_code s ν i → NameRead s ν i (Ok x)
+  name_missing : (NameAt s i → ⊥) → NameRead s ν i (Err (record { place = i; refusal = NoDossier }))
 
 pub data EndAt (s : List ℕ) : ℕ → ℕ → Type 0 where
   positive : {i : ℕ} → get_or s i 0 ≡ 1 → EndAt s i (i + 1)

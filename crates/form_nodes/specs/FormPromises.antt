@@ -16,6 +16,7 @@ use Rattle.form_nodes.specs.declared.kinds.Operator.{Operator}
 use Rattle.form_nodes.specs.declared.kinds.Operator.TheVariants.{Loose, Tight, Division}
 use Rattle.form_nodes.specs.declared.Read.{Read}
 use Rattle.refusals.specs.declared.Fault.{Fault}
+use Rattle.refusals.specs.declared.Refusal.TheVariants.{NoDossier}
 use Rattle.refusals.specs.RefusalNames.{refusal_is}
 
 -- the kinds' numbers, which the code reads
@@ -149,10 +150,16 @@ abbrev pub Shown : (ℕ → Type 0) → ℕ → Answer → Type 0
 Shown P n (Ok e) = P e.at × (e.count ≡ n)
 Shown P n (Err f) = Unit {0}
 
+-- where a symbol of the code k is expected and none stands
+abbrev pub Missed : List ℕ → (at k : ℕ) → Answer → Type 0
+Missed s at k (Ok e) = Unit {0}
+Missed s at k (Err f) = (1 ≤ k → get_or s at 0 ≡ k → ⊥) × (f ≡ record { place = at; refusal = NoDossier })
+
 -- one symbol of the kind κ
 pub record Closes (s : List ℕ) (at k n : ℕ) (r : Answer) : Type 0 where
   pub ahead : Ahead at r
   pub shown : Shown (λ (e : ℕ). (e ≡ at + 1) × (get_or s at 0 ≡ k)) n r
+  pub missed : Missed s at k r
   pub reads : (κ : Kind) → code_of κ ≡ k → Reads s at n (machine.exact κ ∷ []) [] r
 
 -- a node behind the first n numbers, and nothing behind it changed

@@ -58,9 +58,7 @@ pub fn start_of(k: u8) -> Option<Start>
 {
     match k {
         codes::NUMBER..=codes::OUTPUT => Some(Start::Leaf),
-        codes::DASH => Some(Start::Prefix),
-        codes::SIZE => Some(Start::Prefix),
-        codes::DOM..=codes::RAN => Some(Start::Prefix),
+        codes::DASH | codes::SIZE | codes::DOM..=codes::RAN => Some(Start::Prefix),
         codes::OPEN_BRACKET => Some(Start::Bracket),
         codes::OPEN_BRACE => Some(Start::Brace),
         codes::EMPTY => Some(Start::Empty),
@@ -89,10 +87,8 @@ pub fn operator_of(k: u8) -> Option<Operator>
     ensures { Classes operators k (operator_class result) }
 {
     match k {
-        codes::PLUS..=codes::DASH => Some(Operator::Loose),
-        codes::TIMES => Some(Operator::Tight),
-        codes::UNION..=codes::MINUS => Some(Operator::Loose),
-        codes::INTER => Some(Operator::Tight),
+        codes::PLUS..=codes::DASH | codes::UNION..=codes::MINUS => Some(Operator::Loose),
+        codes::TIMES | codes::INTER => Some(Operator::Tight),
         codes::DIV..=codes::MOD => Some(Operator::Division),
         _ => None,
     }

@@ -8,7 +8,7 @@ ghost use Rattle.std.specs.Prelude.{◌≡◌, [], ◌∷◌, ◌+◌, ◌≤◌
 ghost use Rattle.form.specs.Machine.{a_name, an_empty_rest};
 ghost use Rattle.form_nodes.specs.FormPromises.{Room, Writes, Reads};
 ghost use Rattle.form.specs.Codes.{node};
-ghost use Rattle.form_nodes.specs.Derivations.{Made, an_operand, name_code, end_code, magnitude_code, division_code, leaf_node, range_node, domain_node};
+ghost use Rattle.form_nodes.specs.Derivations.{Made, NameRead, an_operand, name_code, end_code, magnitude_code, division_code, leaf_node, range_node, domain_node};
 
 use crate::kinds::kind_at;
 use crate::{Read, Symbols};
@@ -38,7 +38,7 @@ pub fn put(code: &mut [u16], n: usize, shape: u16, place: usize, x: u16, y: u16)
 }
 
 // The number of a name: of its letters, and its ending.
-// Form 1: a node has 0 where no name stands. Each of the 15 calls is for a place where one stands and writes what it gets: with an Option each would turn a
+// Form 1: a node has 0 where no name stands. Each of the 11 calls is for a place where one stands and writes what it gets: with an Option each would turn a
 // `None` that does not come into 0.
 pub fn name_number(kinds: &[u8], values: &[u16], at: usize) -> u16
     ensures { result ≡ name_code kinds.now values.now at }
@@ -49,6 +49,21 @@ pub fn name_number(kinds: &[u8], values: &[u16], at: usize) -> u16
         return 0;
     }
     endings::COUNT * x + (u16::from(k) - PLAIN)
+}
+
+impl Symbols<'_> {
+    // The number of the name at a place; a fault of the form where none stands.
+    pub fn name_at(&self, at: usize) -> Result<u16, Fault>
+        ensures { NameRead self.now.kinds.now self.now.values.now at result }
+    {
+        if !is_name(kind_at(self.kinds, at)) {
+            return Err(Fault {
+                place: at,
+                refusal: Refusal::NoDossier,
+            });
+        }
+        Ok(name_number(self.kinds, self.values, at))
+    }
 }
 
 // An end of a range, plus 1,000.
@@ -133,28 +148,20 @@ pub fn put_domain(kinds: &[u8], values: &[u16], at: usize, code: &mut [u16], n: 
 }
 
 // One name or two behind an `empty`.
-pub fn empty(y: &Symbols<'_>, at: usize, code: &mut [u16], n: usize) -> Result<Read, Fault>
-    requires { Room y.now.kinds.now code.old at n × (at < length y.now.kinds.now) × (get_or y.now.kinds.now at 0 ≡ 47) }
-    ensures { Reads y.now.kinds.now (at + 1) (n + 4) (a_name ∷ an_empty_rest ∷ []) [] result × Made y.now.kinds.now y.now.values.now an_operand at n code.old code.new result }
+pub fn empty(y: &Symbols<'_>, from: Read, code: &mut [u16]) -> Result<Read, Fault>
+    requires { Room y.now.kinds.now code.old from.at from.count × (from.at < length y.now.kinds.now) × (get_or y.now.kinds.now from.at 0 ≡ 47) }
+    ensures { Reads y.now.kinds.now (from.at + 1) (from.count + 4) (a_name ∷ an_empty_rest ∷ []) [] result × Made y.now.kinds.now y.now.values.now an_operand from.at from.count code.old code.new result }
 {
-    let k = kind_at(y.kinds, at + 1);
-    if !is_name(k) {
-        return Err(Fault {
-            place: at + 1,
-            refusal: Refusal::NoDossier,
-        });
-    }
-    let x = name_number(y.kinds, y.values, at + 1);
-    let j = kind_at(y.kinds, at + 1 + 1);
-    if !is_name(j) {
-        let m = put(code, n, shapes::EMPTY_SET, at, x, 0);
+    let at = from.at;
+    let x = y.name_at(at + 1)?;
+    let Ok(second) = y.name_at(at + 1 + 1) else {
+        let m = put(code, from.count, shapes::EMPTY_SET, at, x, 0);
         return Ok(Read {
             at: at + 1 + 1,
             count: m,
         });
-    }
-    let second = name_number(y.kinds, y.values, at + 1 + 1);
-    let m = put(code, n, shapes::EMPTY_PAIRS, at, x, second);
+    };
+    let m = put(code, from.count, shapes::EMPTY_PAIRS, at, x, second);
     Ok(Read {
         at: at + 1 + 1 + 1,
         count: m,

@@ -14,31 +14,31 @@ use lexical::codes::is_name;
 use refusals::{Fault, Refusal};
 
 // A symbol of the kind with the code k.
-pub fn close(s: &[u8], at: usize, k: u8, n: usize) -> Result<Read, Fault>
-    requires { at ≤ length s.now }
-    ensures { Closes s.now at k n result }
+pub fn close(s: &[u8], from: Read, k: u8) -> Result<Read, Fault>
+    requires { from.at ≤ length s.now }
+    ensures { Closes s.now from.at k from.count result }
 {
-    if at < s.len() && s[at] == k {
+    if s.get(from.at) == Some(&k) {
         return Ok(Read {
-            at: at + 1,
-            count: n,
+            at: from.at + 1,
+            ..from
         });
     }
     Err(Fault {
-        place: at,
+        place: from.at,
         refusal: Refusal::NoDossier,
     })
 }
 
 // A number, which may carry -.
-pub fn end(y: &Symbols<'_>, at: usize, n: usize) -> Result<Read, Fault>
-    requires { at ≤ length y.now.kinds.now }
-    ensures { Advances y.now.kinds.now at n (an_end ∷ []) [] result × Shown (EndAt y.now.kinds.now at) n result }
+pub fn end(y: &Symbols<'_>, from: Read) -> Result<Read, Fault>
+    requires { from.at ≤ length y.now.kinds.now }
+    ensures { Advances y.now.kinds.now from.at from.count (an_end ∷ []) [] result × Shown (EndAt y.now.kinds.now from.at) from.count result }
 {
-    if kind_at(y.kinds, at) == codes::DASH {
-        return close(y.kinds, at + 1, codes::NUMBER, n);
+    if kind_at(y.kinds, from.at) == codes::DASH {
+        return close(y.kinds, from.skip(), codes::NUMBER);
     }
-    close(y.kinds, at, codes::NUMBER, n)
+    close(y.kinds, from, codes::NUMBER)
 }
 
 // Do -, a number and .. stand here?
@@ -69,25 +69,22 @@ pub fn is_range(y: &Symbols<'_>, at: usize) -> bool
 }
 
 // a..b
-pub fn range(y: &Symbols<'_>, at: usize, n: usize) -> Result<Read, Fault>
-    requires { at ≤ length y.now.kinds.now }
-    ensures { Advances y.now.kinds.now at n (an_end ∷ exact kind.up_to ∷ an_end ∷ []) [] result × Shown (RangeAt y.now.kinds.now at) n result }
+pub fn range(y: &Symbols<'_>, from: Read) -> Result<Read, Fault>
+    requires { from.at ≤ length y.now.kinds.now }
+    ensures { Advances y.now.kinds.now from.at from.count (an_end ∷ exact kind.up_to ∷ an_end ∷ []) [] result × Shown (RangeAt y.now.kinds.now from.at) from.count result }
 {
-    let first = end(y, at, n)?;
-    let dots = close(y.kinds, first.at, codes::UP_TO, first.count)?;
-    end(y, dots.at, dots.count)
+    let first = end(y, from)?;
+    let dots = close(y.kinds, first, codes::UP_TO)?;
+    end(y, dots)
 }
 
 // What a bound name ranges over.
-pub fn domain(y: &Symbols<'_>, at: usize, n: usize) -> Result<Read, Fault>
-    requires { at ≤ length y.now.kinds.now }
-    ensures { Reads y.now.kinds.now at n (a_domain ∷ []) [] result × Shown (DomainAt y.now.kinds.now at) n result }
+pub fn domain(y: &Symbols<'_>, from: Read) -> Result<Read, Fault>
+    requires { from.at ≤ length y.now.kinds.now }
+    ensures { Reads y.now.kinds.now from.at from.count (a_domain ∷ []) [] result × Shown (DomainAt y.now.kinds.now from.at) from.count result }
 {
-    if is_name(kind_at(y.kinds, at)) {
-        return Ok(Read {
-            at: at + 1,
-            count: n,
-        });
+    if is_name(kind_at(y.kinds, from.at)) {
+        return Ok(from.skip());
     }
-    range(y, at, n)
+    range(y, from)
 }

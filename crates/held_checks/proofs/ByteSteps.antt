@@ -1,18 +1,17 @@
 -- What the functions that read and write the held bytes count on: numbers byte by byte, zeros, a text copied, a mark that fits.
 use mathlib.Core.Path.{◌≡◌, refl, sym, ap, ap₂, ◌∙◌}
-use mathlib.Core.Bool.{◌&&◌}
+use mathlib.Core.Bool.{◌&&◌, or-false}
 use mathlib.Core.List.{List, [], ◌∷◌, ◌++◌}
 use Prim.Native.Nat.{ℕ, zero, suc, ◌+◌, ◌-◌, ◌*◌, ◌/◌, ◌%◌, ◌^◌, ◌≤◌}
 use native.Mathlib.Omega.{arith}
 use native.Mathlib.Nat.{pow-suc, div-div-eq-div-mul}
 use lib.Dec.{eqb, leb, ltb}
 use lib.ListN.{length, length-append, length-replicate, length-drop, take, drop, replicate}
-use lib.Seq.{drop-drop, length-take-le, take_all}
+use lib.Seq.{drop-drop, length-take-le}
 use borrow.Rule.Slice.PartMut.{put_mid}
 use Rattle.table_nodes.specs.TableWalkPromises.{patch}
 use Rattle.std.specs.Int.{w64, to_le_bytes, from_le_bytes, bytes_low_first}
 use Rattle.held_checks.specs.HeldBytes.{little_endian, from_bytes, fitting}
-use Rattle.lexical.proofs.BooleanTests.{or-none}
 
 -- the number that bytes are: the library's of eight bytes, no more than the bytes tell, and the same with zeros behind them
 nested : (a b c d e f g h : ℕ) → a + b * 256 + c * 65536 + d * 16777216 + e * 4294967296 + f * 1099511627776 + g * 281474976710656 + h * 72057594037927936
@@ -84,18 +83,14 @@ pub number-laid : (at n x : ℕ) (b : List ℕ) {w : List ℕ} → at + n ≤ le
 number-laid at n x b h e =
     laid-at at n (little_endian n x) b (e ∙ ap (λ (k : ℕ). little_endian k x) (length-take-le n (drop at b) (omega (arith, h, length-drop at b)))) (little_length n x)
 
--- the bytes from a place on
-pub rest-is : (b : List ℕ) (k : ℕ) → take (length b - k) (drop k b) ≡ drop k b
-rest-is b k = take_all (length b - k) (drop k b) (omega (arith, length-drop k b))
-
 -- a mark that fits, by the mark
 pub fits-unfinished : (n p m : ℕ) → m ≡ 1 → ltb p n ≡ fitting n p m
 unfolding fitting
-fits-unfinished n p m e = sym (ap (fitting n p) e ∙ or-none (ltb p n))
+fits-unfinished n p m e = sym (ap (fitting n p) e ∙ or-false (ltb p n))
 
 pub fits-accepted : (n p m : ℕ) → m ≡ 2 → eqb p n ≡ fitting n p m
 unfolding fitting
-fits-accepted n p m e = sym (ap (fitting n p) e ∙ or-none (eqb p n))
+fits-accepted n p m e = sym (ap (fitting n p) e ∙ or-false (eqb p n))
 
 pub fits-refuted : (n p m : ℕ) → m ≡ 3 → leb 1 p && leb p n ≡ fitting n p m
 unfolding fitting

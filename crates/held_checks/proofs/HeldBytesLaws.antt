@@ -1,15 +1,18 @@
 -- A held check is told by its bytes: the text, the place and the mark that were laid are those that are read, and bytes that have the layout are those of what they hold.
 use mathlib.Core.Path.{◌≡◌, refl, ap, ap₂, ◌∙◌}
-use mathlib.Core.Bool.{true}
+use mathlib.Core.Bool.{Bool, true, false, cond}
 use mathlib.Core.List.{List, ◌++◌}
 use Prim.Native.Nat.{ℕ, zero, suc, ◌-◌, ◌/◌, ◌^◌, ◌≤◌, ◌<◌}
 use native.Mathlib.Omega.{arith}
 use native.Mathlib.Nat.{pow-suc}
+use lib.Dec.{eqb}
 use lib.ListN.{length, take, drop, replicate, length-append, length-replicate, length-take, length-drop}
 use lib.Seq.{take-append_seam}
 use Rattle.lexical.specs.Lists.{same}
 use Rattle.lexical.proofs.WordLaws.{same_refl, same_true}
-use Rattle.held_checks.specs.HeldBytes.{little_endian, from_bytes, bytes_of, held_mark, held_text, held_place, is_laid}
+use Rattle.static_rules.specs.Read.{Reading, read}
+use Rattle.obligations.specs.Calls.{nothing}
+use Rattle.held_checks.specs.HeldBytes.{little_endian, from_bytes, bytes_of, held_mark, held_text, held_place, is_laid, fitting, held_in, held_by}
 
 -- a number below 256 ^ n is told by its n bytes
 pub number_of : (n x : ℕ) → x < 256 ^ n → from_bytes (little_endian n x) ≡ x
@@ -75,3 +78,17 @@ laid-short b h e =
     let l = laid-length b h e in
     let s = text-short b h in
     omega arith
+
+-- the held check of laid bytes, by their text, place and mark
+pub by_fields : (b : List ℕ) {t : List ℕ} {p m : ℕ} {r : Reading} → is_laid b ≡ true → held_text b ≡ t → held_place b ≡ p → held_mark b ≡ m → read t ≡ r → held_by b ≡ held_in r p m
+unfolding held_by
+by_fields b {r = r} l e f g h =
+    ap (λ (x : Bool). cond x (held_in (read (held_text b)) (held_place b) (held_mark b)) nothing) l
+    ∙ ap (λ (x : List ℕ). held_in (read x) (held_place b) (held_mark b)) e
+    ∙ ap (λ (x : Reading). held_in x (held_place b) (held_mark b)) h
+    ∙ ap₂ (held_in r) f g
+
+-- no other number is a mark's
+pub no_mark : (n p m : ℕ) → eqb m 1 ≡ false → eqb m 2 ≡ false → eqb m 3 ≡ false → fitting n p m ≡ false
+unfolding fitting
+no_mark n p m f g h = rw (f, g, h) refl

@@ -15,7 +15,8 @@ use Rattle.table_nodes.specs.TableWalkPromises.{patch}
 use Rattle.held_checks.specs.HeldBytes.{little_endian, from_bytes, bytes_of, none_held, held_mark, held_text, held_place, is_laid}
 use Rattle.held_checks.specs.BytePromises.{all_zero, Turned}
 use Rattle.held_checks.proofs.HeldBytesLaws.{laid-is, laid-length, laid-short}
-use Rattle.lexical.proofs.BooleanTests.{both-ways, not-true}
+use Rattle.std.proofs.lemmas.Bool.{false_from_ne_true}
+use Rattle.std.specs.Cmp.{both_ways}
 
 -- bytes are told by the number that they are
 number-back : (n : ℕ) (w : List ℕ) → length w ≡ n → ((i : ℕ) → i < length w → get_or w i 0 < 256) → little_endian n (from_bytes w) ≡ w
@@ -97,7 +98,7 @@ pub laid-zeros : (b : List ℕ) (n : ℕ) → length b ≡ 32784 → ((i : ℕ) 
     → all_zero (take 3 (drop 1 b)) ≡ true → all_zero (drop (16 + n) b) ≡ is_laid b
 unfolding held_text
 laid-zeros b n h f e k a =
-    both-ways (all_zero (drop (16 + n) b)) (is_laid b)
+    both_ways (all_zero (drop (16 + n) b)) (is_laid b)
     (λ z. is-laid b
     (laid-head b n h f e k a (ap all_zero (drop-drop n 16 b) ∙ z) ∙ ap (λ (j : ℕ). bytes_of (take j (drop 16 b)) (held_place b) (held_mark b)) e))
     (λ z. ap all_zero (sym (drop-drop n 16 b)) ∙ ap (λ (j : ℕ). all_zero (drop j (drop 16 b))) (e ∙ laid-length b h z) ∙ zeros-laid b h z)
@@ -105,10 +106,10 @@ laid-zeros b n h f e k a =
 -- a test that fails decides
 pub laid-not : (b : List ℕ) → all_zero (take 3 (drop 1 b)) ≡ false → false ≡ is_laid b
 unfolding bytes_of
-laid-not b f = sym (not-true (is_laid b) (λ z. true≢false (sym (ap (λ (w : List ℕ). all_zero (take 3 (drop 1 w))) (laid-is b z)) ∙ f)))
+laid-not b f = sym (false_from_ne_true (is_laid b) (λ z. true≢false (sym (ap (λ (w : List ℕ). all_zero (take 3 (drop 1 w))) (laid-is b z)) ∙ f)))
 
 laid-long : (b : List ℕ) (n : ℕ) → length b ≡ 32784 → n ≡ from_bytes (take 4 (drop 4 b)) → 32768 < n → false ≡ is_laid b
-laid-long b n h e k = sym (not-true (is_laid b) (λ z. let s = laid-short b h z in absurd (omega arith)))
+laid-long b n h e k = sym (false_from_ne_true (is_laid b) (λ z. let s = laid-short b h z in absurd (omega arith)))
 
 -- the first two tests do not both hold, and the first one does
 pub laid-both_not : (b : List ℕ) (n : ℕ) {r t : Bool} → length b ≡ 32784 → n ≡ from_bytes (take 4 (drop 4 b)) → t ≡ leb n 32768 → r ≡ true → (r ≡ true × 32768 < n) ⊎ (r ≡ false) → t ≡ is_laid b

@@ -2,7 +2,7 @@
 use mathlib.Core.Path.{◌≡◌, refl, sym, ap, ap₂, subst, ◌∙◌}
 use mathlib.Core.Bool.{Bool, true, false}
 use mathlib.Core.List.{List}
-use Prim.Native.Nat.{ℕ, zero, suc, ◌+◌, ◌-◌, ◌*◌, ◌/◌, ◌%◌, ◌<◌, ◌≤◌}
+use Prim.Native.Nat.{ℕ, zero, suc, ◌+◌, ◌-◌, ◌*◌, ◌/◌, ◌%◌, ◌≤◌}
 use native.Mathlib.Omega.{arith}
 use native.Mathlib.Decide.{dec_lt}
 use Rattle.obligations.specs.Order as order
@@ -23,24 +23,24 @@ pub moves : (failed : Bool) (all at : ℕ) {before after : List ℕ} {next mark 
 moves failed all at e m t = record { is = λ text p k short was. t.is text p k short was ∙ ap₂ (bytes_of text) e (m ∙ ap (mark_after failed all) e) }
 
 -- the obligation of a part
-pub told-opening : (part : ℕ) → part < 1 → PartTold part Initialisation
-told-opening part h = record { opening = λ e. refl; applying = λ j e. absurd (omega arith); correcting = λ j e. absurd (omega arith) }
+pub told-opening : (part : ℕ) → (1 ≤ part → ⊥) → PartTold part Initialisation
+told-opening part h = record { opening = λ e. refl; applying = λ j e. absurd (h (omega arith)); correcting = λ j e. absurd (h (omega arith)) }
 
-pub told-applying : (part : ℕ) → 1 ≤ part → (part - 1) % 2 ≡ 0 → PartTold part (Applicability ((part - 1) / 2))
-told-applying part h m = record {
+pub told-applying : (part k : ℕ) → (1 ≤ part) × (k ≡ part - 1) → k % 2 ≡ 0 → PartTold part (Applicability (k / 2))
+told-applying part k h m = record {
   opening = λ e. absurd (omega arith);
-  applying = λ j e. (let s : (part - 1) / 2 ≡ j = omega arith in ap order.applicability s);
+  applying = λ j e. (let s : k / 2 ≡ j = omega arith in ap order.applicability s);
   correcting = λ j e. absurd (omega arith);
 }
 
-pub told-correcting : (part : ℕ) → 1 ≤ part → ((part - 1) % 2 ≡ 0 → ⊥) → PartTold part (Correctness ((part - 1) / 2))
-told-correcting part h m =
-    let n : (part - 1) % 2 ≡ 0 → ⊥ = m in
-    let r : (part - 1) % 2 ≡ 1 = omega arith in
+pub told-correcting : (part k : ℕ) → (1 ≤ part) × (k ≡ part - 1) → (k % 2 ≡ 0 → ⊥) → PartTold part (Correctness (k / 2))
+told-correcting part k h m =
+    let n : k % 2 ≡ 0 → ⊥ = m in
+    let r : k % 2 ≡ 1 = omega arith in
     record {
       opening = λ e. absurd (omega arith);
       applying = λ j e. absurd (omega (arith, r, e));
-      correcting = λ j e. (let s : (part - 1) / 2 ≡ j = omega (arith, r, e) in ap order.correctness s);
+      correcting = λ j e. (let s : k / 2 ≡ j = omega (arith, r, e) in ap order.correctness s);
     }
 
 -- what holds of the obligation of every kind of part holds of the one that is told

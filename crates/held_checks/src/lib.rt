@@ -1,6 +1,6 @@
 // The held check in lent bytes, and the answers of the calls. The bytes: 0 the mark, 1 the profile, 2 the operation, 3 spare (all three 0), from 4 on the text's length, from 8 on the
 // place, numbers with the lowest byte first, from 16 on the text, and zeros behind it. All zero is nothing held.
-// Form 1: the enums are cases of their own, the answers of document 01 and the marks of the held bytes; the constants are places in these bytes, and lengths.
+// Form 1: the enums are cases of their own, the answers of document 01 and the marks of the held bytes; the constants are places in these bytes, lengths, and numbers of parts of a check.
 #![tactic(auto)]
 
 ghost use Rattle.std.specs.Prelude.{◌≡◌, ◌+◌, ◌-◌, ◌^◌, ◌<◌, ◌≤◌, length, take, drop, is_some, unwrap_or};
@@ -256,11 +256,11 @@ pub fn told(mark: Mark) -> Option<Verdict>
 pub fn obligation_of(part: usize) -> Obligation
     ensures { PartTold part result }
 {
-    if part < OPENING {
+    let Some(behind) = part.checked_sub(OPENING) else {
         return Obligation::Initialisation;
-    }
-    let k = (part - OPENING) / OBLIGATIONS;
-    if (part - OPENING) % OBLIGATIONS == 0 {
+    };
+    let k = behind / OBLIGATIONS;
+    if behind % OBLIGATIONS == 0 {
         return Obligation::Applicability(k);
     }
     Obligation::Correctness(k)

@@ -3,6 +3,7 @@ use mathlib.Core.Path.{◌≡◌, refl, sym, ap, ap₂, subst, ◌∙◌}
 use mathlib.Core.Bool.{Bool}
 use mathlib.Core.List.{List, [], ◌∷◌}
 use Prim.Native.Nat.{ℕ, zero, suc, ◌+◌, ◌/◌, ◌%◌, ◌<◌, ◌≤◌}
+use native.Mathlib.Nat.{zero-add}
 use native.Mathlib.Omega.{arith}
 use lib.ListN.{get_or, length}
 use lib.IntN.{ℤ, pos}
@@ -27,29 +28,23 @@ unfolding row
 row-long g k zero = refl
 row-long g k (suc n) = ap suc (row-long g (suc k) n)
 
+plus_none : (k : ℕ) → k ≡ k + 0
+plus_none k = omega arith
+
+plus-next : (k i : ℕ) → suc k + i ≡ k + suc i
+plus-next k i = omega arith
+
 row_at : (g : ℕ → ℤ) (k n i : ℕ) → i < n → get_or (row g k n) i (pos 0) ≡ g (k + i)
 unfolding row
 row_at g k zero i h = absurd (omega arith)
-row_at g k (suc n) zero h = ap g (plus k)
-  where
-    plus : (k : ℕ) → k ≡ k + 0
-    plus k = omega arith
-row_at g k (suc n) (suc i) h = row_at g (suc k) n i (omega arith) ∙ ap g (plus k i)
-  where
-    plus : (k i : ℕ) → suc k + i ≡ k + suc i
-    plus k i = omega arith
+row_at g k (suc n) zero h = ap g (plus_none k)
+row_at g k (suc n) (suc i) h = row_at g (suc k) n i (omega arith) ∙ ap g (plus-next k i)
 
 row_same : (f g : ℕ → ℤ) (k n i : ℕ) → f (k + i) ≡ g (k + i) → get_or (row f k n) i (pos 0) ≡ get_or (row g k n) i (pos 0)
 unfolding row
 row_same f g k zero i h = refl
-row_same f g k (suc n) zero h = ap f (plus k) ∙ h ∙ sym (ap g (plus k))
-  where
-    plus : (k : ℕ) → k ≡ k + 0
-    plus k = omega arith
-row_same f g k (suc n) (suc i) h = row_same f g (suc k) n i (ap f (plus k i) ∙ h ∙ sym (ap g (plus k i)))
-  where
-    plus : (k i : ℕ) → suc k + i ≡ k + suc i
-    plus k i = omega arith
+row_same f g k (suc n) zero h = ap f (plus_none k) ∙ h ∙ sym (ap g (plus_none k))
+row_same f g k (suc n) (suc i) h = row_same f g (suc k) n i (ap f (plus-next k i) ∙ h ∙ sym (ap g (plus-next k i)))
 
 row-path : (f g : ℕ → ℤ) (k n : ℕ) → ((i : ℕ) → f i ≡ g i) → row f k n ≡ row g k n
 unfolding row
@@ -73,12 +68,9 @@ module _ (cells : List ℕ) where
     two = refl;
     before_long = row-long (before_in δ) 0 64;
     after_long = row-long (after_in δ) 0 64;
-    before = λ s h. row_at (before_in δ) 0 64 s (omega arith) ∙ ap (before_in δ) (plus s);
-    after = λ t h. row_at (after_in δ) 0 64 t (omega arith) ∙ ap (after_in δ) (plus t);
+    before = λ s h. row_at (before_in δ) 0 64 s (omega arith) ∙ ap (before_in δ) (zero-add s);
+    after = λ t h. row_at (after_in δ) 0 64 t (omega arith) ∙ ap (after_in δ) (zero-add t);
   }
-    where
-      plus : (s : ℕ) → 0 + s ≡ s
-      plus s = omega arith
 
   module _ {table : List ℕ} {e : ℕ} {f : Point → Bool} (w : Test table cells e f) (s : ℕ) (low : s < 22) where
     -- what the nodes give at two points is the same

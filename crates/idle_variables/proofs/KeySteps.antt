@@ -3,7 +3,7 @@ use mathlib.Core.Path.{◌≡◌, refl, sym, ap, ap₂, subst, ◌∙◌}
 use mathlib.Core.Bool.{Bool, false, cond}
 use mathlib.Core.List.{List, [], ◌∷◌}
 use Prim.Native.Nat.{ℕ, zero, suc, ◌+◌, ◌-◌, ◌*◌, ◌/◌, ◌%◌, ◌<◌, ◌≤◌}
-use native.Mathlib.Nat.{mod-lt, div-add-mod'}
+use native.Mathlib.Nat.{mod-lt, div-add-mod', zero-add}
 use native.Mathlib.Omega.{arith}
 use borrow.Author.Tests.{eq-eqb, ne_eqb}
 use lib.Arith.{digits_div}
@@ -183,10 +183,7 @@ module _ {cells : List ℕ} {g : KeyGroup} (q : KeyAsked cells g) {x i stride id
       pub key-passed : idle % 2 ≡ 1 → Keying cells g x (i + 1) (stride / d) (idle / 2) (rest % (stride / d)) key
       key-passed o =
           subst (Keying cells g x (i + 1) (stride / d) (idle / 2) (rest % (stride / d))) {x = key + 0} {y = key} (omega arith)
-          (next 0 (zero-first behind-key ∙ key-idle k.asked left-some f rest refl o))
-        where
-          zero-first : (a : ℕ) → 0 + a ≡ a
-          zero-first a = omega arith
+          (next 0 (zero-add behind-key ∙ key-idle k.asked left-some f rest refl o))
 
       pub key-taken : (idle % 2 ≡ 1 → ⊥) → Keying cells g x (i + 1) (stride / d) (idle / 2) (rest % (stride / d)) (key + rest / (stride / d) * (stride / d))
       key-taken o = next (rest / (stride / d) * (stride / d)) (key-kept k.asked left-some f rest refl o)

@@ -3,11 +3,12 @@ use mathlib.Core.Path.{◌≡◌, refl, sym, ap, ap₂, ◌∙◌}
 use mathlib.Core.Bool.{Bool, true, false, cond}
 use mathlib.Core.Logic.{inl, inr}
 use mathlib.Core.List.{List, [], ◌∷◌}
-use Prim.Native.Nat.{ℕ, ◌+◌, ◌*◌, ◌/◌, ◌%◌, ◌<◌, ◌≤◌}
-use native.Mathlib.Nat.{mod-lt, div-lt_iff_lt-mul, mul-le-mul}
+use Prim.Native.Nat.{ℕ, ◌/◌, ◌%◌, ◌<◌}
+use native.Mathlib.Nat.{mod-lt}
 use native.Mathlib.Decide.{ℕ_discrete}
 use native.Mathlib.Omega.{arith}
-use lib.Arith.{digits_div, digits_mod}
+use lib.Arith.{digits_lt, digits_div, digits_mod}
+use Rattle.std.proofs.lemmas.Nat.{div_below}
 use Rattle.meaning.specs.Bindings.{Among}
 use Rattle.sets.specs.Sets.{has}
 use Rattle.slot_carriers.specs.Cells.{count_in}
@@ -20,12 +21,6 @@ low_digit : (b : Bool) (d n : ℕ) → d < n → cond b 0 d < n
 low_digit true d n h = omega arith
 low_digit false d n h = h
 
-in_block : (d n y w : ℕ) → d < n → y < w → d * w + y < n * w
-in_block d n y w h g = let l : (d + 1) * w ≤ n * w = mul-le-mul {n₁ = d + 1} {m₁ = w} {n₂ = n} {m₂ = w} (omega arith) (omega arith) in omega arith
-
-first_low : (n w x : ℕ) → 0 < w → x < n * w → x / w < n
-first_low n w x h l = (div-lt_iff_lt-mul h).1 l
-
 -- a key is one of the numbers
 pub keyed-low : (cells ss : List ℕ) (idle x : ℕ) → Counts cells ss → x < span cells ss → keyed cells ss idle x < span cells ss
 unfolding keyed span
@@ -33,8 +28,7 @@ keyed-low cells [] idle x c h = omega arith
 keyed-low cells (s ∷ ss) idle x c h =
     let k : Counts cells ss = counts-rest cells s ss c in
     let w : 0 < span cells ss = span-some cells ss k in
-    in_block (cond (has idle 0) 0 (x / span cells ss)) (count_in cells s) (keyed cells ss (idle / 2) (x % span cells ss)) (span cells ss)
-    (low_digit (has idle 0) (x / span cells ss) (count_in cells s) (first_low (count_in cells s) (span cells ss) x w h))
+    digits_lt (low_digit (has idle 0) (x / span cells ss) (count_in cells s) (div_below x (span cells ss) (count_in cells s) w h))
     (keyed-low cells ss (idle / 2) (x % span cells ss) k (mod-lt x w))
 
 -- a slot that is not among those may be moved before or after
@@ -84,7 +78,7 @@ module _ (cells : List ℕ) (P : Point → Bool) where
       digit = cond (has idle 0) 0 (x / span cells ss)
 
       high : x / span cells ss < count_in cells s
-      high = first_low (count_in cells s) (span cells ss) x w h
+      high = div_below x (span cells ss) (count_in cells s) w h
 
       digit_low : digit < count_in cells s
       digit_low = low_digit (has idle 0) (x / span cells ss) (count_in cells s) high

@@ -7,18 +7,18 @@ use Prim.Native.Nat.{ℕ, zero, suc, ◌+◌, ◌*◌, ◌/◌, ◌<◌, ◌≤�
 use native.Mathlib.Omega.{arith}
 use native.Mathlib.Nat.{zero-add, eq-or-lt_of_le}
 use lib.ListN.{length, take, get_or, get_elem?}
-use lib.Seq.{length-take-le}
+use lib.Seq.{length-take-le, get_or-take}
 use Rattle.lexical.specs.Symbols.{no_ending}
 use Rattle.form.specs.Tree.{Letters, Given, elements, Dossier}
 use Rattle.form.specs.Headings.{givens_at, given_length}
 use Rattle.form.specs.Codes.{node, Numbering, number_of_name, element_codes, given_codes, dossier_codes}
-use Rattle.parser.specs.Sections.{size_of, size_at, Run, Skips, RunsTo, SectionsOf, givens_from}
+use Rattle.parser.specs.Sections.{size_of, size_at, ItemAt, Run, Skips, RunsTo, SectionsOf, givens_from}
 use Rattle.parser.specs.declared.sections.Bounds.{Bounds}
-use Rattle.parser.proofs.ItemNodes.{Split, split-next, split-as, split_at, split-length, size-here, items-run, elements-items, Outside, above, ItemAt}
+use Rattle.parser.proofs.ItemNodes.{Split, split-next, split-as, split_at, split-length, size-here, items-run, elements-items, Outside, above}
 use Rattle.parser.proofs.ItemNodes.{state-above}
 use Rattle.parser.proofs.PartPlaces.{from_abstract, from_concrete, at-givens, item-is, run_is}
 use Rattle.form.specs.Headings.{abstract_at}
-use Rattle.meaning.proofs.Places.{at-taken, entry-below}
+use Rattle.meaning.proofs.Places.{entry-below}
 use Rattle.labels.specs.LabelPromises.{names_from, Between, Stored, ElementsGathered}
 
 -- ---- the nodes
@@ -123,7 +123,7 @@ module _ (nodes starts : List ℕ) (m q g from to : ℕ) (old new : List ℕ) (�
       let a = s.names k x e in
       let i : q + 4 + 4 * k + 1 < m = omega (arith, a.inside, length-take-le m nodes l) in
       let j : from + 4 * k + 1 ≡ q + 4 + 4 * k + 1 = omega arith in
-      let v : get_or nodes (from + 4 * k + 1) 0 ≡ 4 * ρ x = ap (λ (y : ℕ). get_or nodes y 0) j ∙ sym (at-taken m nodes (q + 4 + 4 * k + 1) 0 i) ∙ a.number in
+      let v : get_or nodes (from + 4 * k + 1) 0 ≡ 4 * ρ x = ap (λ (y : ℕ). get_or nodes y 0) j ∙ sym (get_or-take m nodes (q + 4 + 4 * k + 1) 0 i) ∙ a.number in
       let y : get_or nodes (from + 4 * k + 1) 0 / 4 ≡ ρ x = omega arith in
       stored.each k (omega arith) ∙ ap (λ (z : ℕ). get_or starts z 0) y
 

@@ -1,7 +1,7 @@
 -- The labels gathered from the reader's arrays are those of the dossier.
 pub mod LabelStores
 pub mod ElementPlaces
-pub mod LettersOccur
+pub mod LettersAt
 pub mod TypeLabels
 pub mod NamedNodes
 pub mod LabelledGroups

@@ -21,16 +21,16 @@ use Rattle.node_spans.specs.Spans.{spans_of, span}
 use Rattle.value_types.proofs.GivenTitles.{few-elements, few-elements-of}
 use Rattle.value_types.proofs.DeclaredCarriers.{parameters-are}
 use Rattle.value_types.proofs.FineContexts.{DossierFaultless, dossier-faultless}
-use Rattle.readings.proofs.TablesDeclaredPlaces.{variables-few}
+use Rattle.readings.proofs.TablesDeclaredPlaces.{variables-few, parameters_few}
 use Rattle.readings.specs.ReaderOccurrences.{Occurs}
 use Rattle.readings.specs.ReaderPromises.{Written}
 use Rattle.readings.specs.ReaderGives.{Gives}
 use Rattle.readings.proofs.ReaderReadGives.{read-gives}
-use Rattle.readings.proofs.ReadPredicatesSlotBounds.{inputs_few, outputs_few}
 use Rattle.readings.proofs.ReadReadings.{few-at, Rows, codes-long, rows-placed, operation-placed, abstracts-typed, concretes-typed, operation-typed}
 use Rattle.labels.specs.Labels.{SpeltAt, LabelsFrom, LabelsOf}
 use Rattle.labels.specs.LabelPromises.{ElementsGathered, TitlesGathered, VariablesGathered}
-use Rattle.labels.proofs.LettersOccur.{letters-occur, letters-at, elements-in, operation-in}
+use Rattle.readings.proofs.ReaderTextLetters.{dossier-in}
+use Rattle.labels.proofs.LettersAt.{letters-at, elements-in, operation-in}
 use Rattle.labels.proofs.NamedNodes.{NamesAt, name-spelt, names_at, NodesFrom, operations-nodes, abstract-nodes, concrete-nodes}
 use Rattle.labels.proofs.LabelledGroups.{row-labels, state-labelled, parameters-labelled}
 
@@ -74,7 +74,7 @@ read-labels text nodes starts spans₀ table₀ groups₀ rows₀ firsts₀ span
   inputs_at = λ j o t.
       let r = operation-placed given w j o t in
       let b = below j o t in
-      let n = subst (λ (x : List Variable). length x ≤ 3) (parameters-are gs inward o.parameters) (inputs_few d given.variables o (few-at given.variables.parameters j o t)) in
+      let n = subst (λ (x : List Variable). length x ≤ 3) (parameters-are gs inward o.parameters) (parameters_few d inward o (few-at given.variables.parameters j o t)) in
       subst (LabelsFrom text l₃ gs (18 + 8 * j + 1)) (sym (parameters-are gs inward o.parameters))
       (row-labels vs
       (parameters-labelled text nodes starts table gs few (λ (x : Parameter). is_input x.direction) (ending_of inward) (span s (9 + 4 * j)) o.parameters (operation-typed given w room j o t)
@@ -83,7 +83,7 @@ read-labels text nodes starts spans₀ table₀ groups₀ rows₀ firsts₀ span
   outputs_at = λ j o t.
       let r = operation-placed given w j o t in
       let b = below j o t in
-      let n = subst (λ (x : List Variable). length x ≤ 3) (parameters-are gs outward o.parameters) (outputs_few d given.variables o (few-at given.variables.parameters j o t)) in
+      let n = subst (λ (x : List Variable). length x ≤ 3) (parameters-are gs outward o.parameters) (parameters_few d outward o (few-at given.variables.parameters j o t)) in
       subst (LabelsFrom text l₃ gs (18 + 8 * j + 5)) (sym (parameters-are gs outward o.parameters))
       (row-labels vs
       (parameters-labelled text nodes starts table gs few (λ (x : Parameter). is_output x.direction) (ending_of outward) (span s (9 + 4 * j)) o.parameters (operation-typed given w room j o t)
@@ -113,7 +113,7 @@ read-labels text nodes starts spans₀ table₀ groups₀ rows₀ firsts₀ span
     fine = dossier-faultless d given.names
 
     occur : DossierIn (Occurs text) d
-    occur = letters-occur text given.form
+    occur = dossier-in text given.form
 
     room : length (dossier_codes d ρ) ≤ length table₀
     room = let q = codes-long nodes d ρ m h u in omega arith

@@ -9,10 +9,10 @@ use lexical::{bounds, endings};
 use node_spans::{span, span_at};
 use parser::sections::Nodes;
 pub use search_groups::groups::GROUPS;
-use type_rules::kinds::{look, put};
+use type_rules::kinds::look;
 
-// Form 1: places in one list of numbers, no kinds: 20 clauses name that list. As a struct of three arrays they would name three, or, by a Model that joins these, each of the three places that
-// are written here and of the seven calls of `label` would have to be shown to be one of the joined list.
+// Form 1: places in one list of numbers, no kinds: 25 clauses name that list, five of them as a field of `Arrays`. As a struct of three arrays they would name three, or, by a Model that joins these, each
+// of the three places that are written here and of the seven calls of `label` would have to be shown to be one of the joined list.
 // Each given set has as many labels as it may have elements.
 pub const ELEMENTS: usize = bounds::ELEMENTS as usize;
 
@@ -107,11 +107,7 @@ pub fn gather_titles(x: &Sources<'_>, labels: &mut [u16; LABELS])
 {
     for j in 0..span::MOST {
         let q = span_at(x.spans, span::of_operation(j));
-        put(
-            labels,
-            TITLES + j,
-            name_byte(x, q.saturating_sub(node::SIZE)),
-        );
+        labels[TITLES + j] = name_byte(x, q.saturating_sub(node::SIZE));
     }
 }
 

@@ -1,57 +1,36 @@
 -- Laws of Boolean tests.
 use mathlib.Core.Path.{◌≡◌, refl, sym, ap, ◌∙◌}
-use mathlib.Core.Bool.{Bool, true, false, cond, ◌&&◌, ◌||◌, false≢true, true≢false}
+use mathlib.Core.Bool.{Bool, true, false, cond, ◌&&◌, beq, false≢true}
 use mathlib.Core.List.{List, ◌∷◌}
+use Rattle.std.proofs.lemmas.Bool.{and_from, and_parts}
 use Rattle.lexical.specs.Lists.{all}
+-- Form 8: laws of the library by other names, since its `and_left` and `and_right` say of a test that it is false, and those of this file that it is true.
+pub use Rattle.std.proofs.lemmas.Bool.{and_left as and-left-false, and_right as and-right-false, and_parts as both-true, false_from_ne_true as not-true}
+pub use mathlib.Core.Bool.{or-false as or-none}
 
 -- what holds of both branches holds of the branch taken
 pub on-cond : {A : Type 0} (P : A → Type 0) (t : Bool) (x y : A) → P x → P y → P (cond t x y)
 on-cond P true x y p q = p
 on-cond P false x y p q = q
 
+-- Form 8: the library's `and_from` without its two tests, which the facts show.
 pub and_both : {a b : Bool} → a ≡ true → b ≡ true → (a && b) ≡ true
-and_both {a = true} e f = f
-and_both {a = false} e f = e
+and_both {a} {b} e f = and_from a b e f
 
+-- a side of `&&` that holds
+-- Form 8: the library's `and_parts` gives both sides as a pair, and has the names of these two for tests that are false.
 pub and_left : (a b : Bool) → (a && b) ≡ true → a ≡ true
-and_left true b e = refl
-and_left false b e = e
+and_left a b e = (and_parts a b e).0
 
 pub and_right : (a b : Bool) → (a && b) ≡ true → b ≡ true
-and_right true b e = e
-and_right false b e = absurd (false≢true e)
+and_right a b e = (and_parts a b e).1
 
-pub both-true : (a b : Bool) → (a && b) ≡ true → (a ≡ true) × (b ≡ true)
-both-true a b e = (and_left a b e, and_right a b e)
-
-pub and-left-false : (a b : Bool) → a ≡ false → (a && b) ≡ false
-and-left-false true b e = absurd (true≢false e)
-and-left-false false b e = refl
-
-pub and-right-false : (a b : Bool) → b ≡ false → (a && b) ≡ false
-and-right-false true b e = e
-and-right-false false b e = refl
-
-pub clash : {b : Bool} → b ≡ true → b ≡ false → ⊥
-clash p q = true≢false (sym p ∙ q)
-
-pub or-false : (a b : Bool) → (a || b) ≡ false → (a ≡ false) × (b ≡ false)
-or-false true b h = absurd (true≢false h)
-or-false false b h = (refl, h)
-
-pub or-none : (b : Bool) → (b || false) ≡ b
-or-none true = refl
-or-none false = refl
-
-pub not-true : (b : Bool) → (b ≡ true → ⊥) → b ≡ false
-not-true true h = absurd (h refl)
-not-true false h = refl
-
--- two tests that hold together are one
-pub both-ways : (a b : Bool) → (a ≡ true → b ≡ true) → (b ≡ true → a ≡ true) → a ≡ b
-both-ways true b f g = sym (f refl)
-both-ways false true f g = g refl
-both-ways false false f g = refl
+-- tests that the library's `beq` finds the same are equal
+pub beq-true : (a b : Bool) → beq a b ≡ true → a ≡ b
+beq-true true true e = refl
+beq-true true false e = sym e
+beq-true false true e = e
+beq-true false false e = refl
 
 -- a test of all members of a list: of the first one and of the others
 pub all-parts : {A : Type 0} (f : A → Bool) (x : A) (xs : List A) → all f (x ∷ xs) ≡ true → (f x ≡ true) × (all f xs ≡ true)

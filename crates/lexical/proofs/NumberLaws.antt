@@ -1,6 +1,6 @@
 -- Laws of numbers: decimal digits, the limit of 1,000, the leading zero.
 use mathlib.Core.Path.{◌≡◌, refl, ap, ap₂, ◌∙◌, sym}
-use mathlib.Core.Bool.{Bool, true, false, not, ◌&&◌, ◌||◌, cond}
+use mathlib.Core.Bool.{Bool, true, false, not, ◌&&◌, ◌||◌, cond, or-true}
 use mathlib.Core.List.{List, [], ◌∷◌}
 use Prim.Native.Nat.{ℕ, suc, ◌+◌, ◌-◌, ◌*◌, ◌≤◌, ◌<◌}
 use native.Mathlib.Omega.{arith}
@@ -170,8 +170,4 @@ module _ (s : List ℕ) (at n : ℕ) (lt : at < length s) (is : class_of (get_or
 
   pub no_zero : {v : ℕ} → Some v ≡ decimal_after 0 (take ((at + n) - at) (drop at s)) → (get_or s at 0 ≡ 48 → ⊥) → Listed 1 n v ≡ token_of (by_class digit (drop at s))
   unfolding r
-  no_zero h f = number h (ap (λ (x : Bool). eqb (length r) 1 || not x) (ne_eqb (get_or r 0 48) 48 (λ q. f (sym first ∙ q))) ∙ last (eqb (length r) 1))
-    where
-      last : (x : Bool) → (x || true) ≡ true
-      last true = refl
-      last false = refl
+  no_zero h f = number h (ap (λ (x : Bool). eqb (length r) 1 || not x) (ne_eqb (get_or r 0 48) 48 (λ q. f (sym first ∙ q))) ∙ or-true (eqb (length r) 1))

@@ -9,7 +9,7 @@ use lib.Seq.{take_all}
 use lib.Dec.{leb}
 use borrow.Author.Tests.{leb-true, leb-false}
 use Rattle.std.specs.List.{push}
-use Rattle.std.proofs.lemmas.List.{append-nil}
+use Rattle.std.proofs.lemmas.List.{append-nil, nil_from_length}
 use Rattle.lexical.specs.SymbolPromises.{packed}
 
 -- as many bytes as there are need no more room
@@ -68,10 +68,6 @@ bytes-behind : (u v : List ℕ) → Bytes (u ++ v) → Bytes v
 bytes-behind [] v f = f
 bytes-behind (a ∷ u) v f = bytes-behind u v (λ i. f (suc i))
 
-empty : (w : List ℕ) → length w ≡ 0 → w ≡ []
-empty [] h = refl
-empty (b ∷ w) h = absurd (omega arith)
-
 one-shorter : (u : List ℕ) (b : ℕ) (v : List ℕ) → (push u b) ++ v ≡ u ++ b ∷ v
 one-shorter [] b v = refl
 one-shorter (a ∷ u) b v = ap (λ (l : List ℕ). a ∷ l) (one-shorter u b v)
@@ -107,7 +103,7 @@ module _ {letters rest : List ℕ} {key : ℕ} (h : Packing letters rest key) wh
   pub packing-end : length rest ≡ 0 → key ≡ packed 16 letters
   packing-end e =
       let l = whole-length in
-      h.key_is ∙ sym (packed-enough 16 h.passed (omega arith)) ∙ ap (packed 16) (ap (λ (r : List ℕ). r ++ h.passed) (sym (empty rest e)) ∙ h.whole) ∙ packed-front 16 letters
+      h.key_is ∙ sym (packed-enough 16 h.passed (omega arith)) ∙ ap (packed 16) (ap (λ (r : List ℕ). r ++ h.passed) (sym (nil_from_length rest e)) ∙ h.whole) ∙ packed-front 16 letters
 
 pub packing-start : (letters rest : List ℕ) (n : ℕ) → rest ≡ take n letters → n ≡ min (length letters) 16 → Packing letters rest 0
 unfolding packed

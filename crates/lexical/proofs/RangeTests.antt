@@ -9,13 +9,14 @@ use Rattle.std.specs.Cmp.{ranks}
 use Rattle.std.specs.Ordering.{is_le, is_lt, nat_cmp, MatchOrdering}
 use Rattle.std.specs.declared.cmp.Ordering.{Ordering}
 use Rattle.std.specs.declared.cmp.Ordering.TheVariants.{Less, Equal, Greater}
-use Rattle.lexical.proofs.BooleanTests.{both-true}
+use Rattle.std.proofs.lemmas.Bool.{and_parts}
 
 at_most : (x y : ℕ) (r : Ordering) → MatchOrdering r (x < y) (x ≡ y) (y < x) → is_le r ≡ leb x y
 at_most x y Less h = sym (le-leb x y (omega arith))
 at_most x y Equal h = sym (le-leb x y (omega arith))
 at_most x y Greater h = sym (lt-leb x y h)
 
+-- Form 8: the library has this law in `core`, which a crate cannot name.
 below : (x y : ℕ) (r : Ordering) → MatchOrdering r (x < y) (x ≡ y) (y < x) → is_lt r ≡ ltb x y
 below x y Less h = sym (lt-ltb x y h)
 below x y Equal h = sym (le-ltb x y (omega arith))
@@ -33,7 +34,7 @@ ranged x {low} {high} {from} {to} a b f =
     ∙ ap₂ ◌&&◌ (at_most from x (nat_cmp from x) (ranks from x)) (at_most x to (nat_cmp x to) (ranks x to)) ∙ ap₂ (λ (i j : ℕ). leb i x && leb x j) a b
 
 pub inside_range : {x low high : ℕ} → (leb low x && leb x high) ≡ true → (low ≤ x) × (x ≤ high)
-inside_range {x} {low} {high} e = let w = both-true (leb low x) (leb x high) e in (leb-true low x w.0, leb-true x high w.1)
+inside_range {x} {low} {high} e = let w = and_parts (leb low x) (leb x high) e in (leb-true low x w.0, leb-true x high w.1)
 
 pub outside_range : {x low high : ℕ} → (leb low x && leb x high) ≡ false → low ≤ x → high < x
 outside_range {x} {low} {high} e l = leb-false x high (sym (ap (λ (b : Bool). b && leb x high) (le-leb low x l)) ∙ e)

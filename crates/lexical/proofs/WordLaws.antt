@@ -1,6 +1,6 @@
 -- Laws of words: packed bytes, reserved words, names and their endings.
 use mathlib.Core.Path.{◌≡◌, refl, ap, ap₂, ◌∙◌, sym}
-use mathlib.Core.Bool.{Bool, true, false, cond}
+use mathlib.Core.Bool.{Bool, true, false, true≢false, cond}
 use mathlib.Core.List.{List, [], ◌∷◌}
 use mathlib.Core.Option.{Option, none, some}
 use Prim.Native.Nat.{ℕ, zero, suc, ◌+◌, ◌-◌, ◌≤◌, ◌<◌}
@@ -83,6 +83,13 @@ same_true (a ∷ v) (b ∷ w) h = on (eqb a b) refl h (same_true v w)
     on : (x : Bool) → eqb a b ≡ x → elim x [ true ↦ same v w | false ↦ false ] ≡ true → (same v w ≡ true → v ≡ w) → a ∷ v ≡ b ∷ w
     on true p e r = ap₂ (λ (x : ℕ) (l : List ℕ). x ∷ l) (eqb-true a b p) (r e)
     on false p e r = let z : ◌≡◌ {A = ℕ} 0 1 = cc in absurd (omega arith)
+
+pub same_turned : (v w : List ℕ) → same w v ≡ false → same v w ≡ false
+same_turned v w e = on (same v w) refl
+  where
+    on : (b : Bool) → same v w ≡ b → b ≡ false
+    on true h = absurd (true≢false (sym (ap (same w) (same_true v w h) ∙ same_refl w) ∙ e))
+    on false h = refl
 
 abbrev EachFits : List (String × Kind) → Type 0
 EachFits [] = Unit {0}

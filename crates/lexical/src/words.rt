@@ -83,6 +83,8 @@ pub fn ending_of(b: u8) -> Ending
 }
 
 // The reserved word that the run of n bytes from `at` on is: none is longer than eight bytes.
+// Form 5: that a place is inside is asked here, by `word_at` and by one function of `name_numbers`. A value of text and place with that as its invariant would be
+// made at each of their calls, where the two are held apart, and shown there as the clause is now.
 pub fn reserved_at(s: &[u8], at: usize, n: usize) -> Option<u8>
     requires { (at ≤ length s.now) × (n ≡ length (run (drop at s.now))) }
     ensures { result ≡ word_code (reserved words (run (drop at s.now))) }

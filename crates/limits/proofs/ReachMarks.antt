@@ -4,6 +4,7 @@ use mathlib.Core.Bool.{Bool, true, false}
 use mathlib.Core.List.{List, [], ◌∷◌, ◌++◌, map}
 use mathlib.Core.Option.{Option, none, some}
 use Prim.Native.Nat.{ℕ, suc, ◌+◌, ◌*◌, ◌/◌}
+use native.Mathlib.Nat.{add-zero}
 use native.Mathlib.Omega.{arith}
 use lib.ListN.{length, drop, set, replicate}
 use lib.Seq.{set_comm}
@@ -116,12 +117,6 @@ module _ (i : ℕ) (e : Ending) (d : Declaration) (ρ : Numbering) (rest : List 
   node-size (arrow_type partial g h) = refl
   node-size (arrow_type total g h) = refl
 
-  node-long : (t : TypeForm) → length (declaration_code i e (record { declared = d.declared; type = t }) ρ) ≡ 8
-  node-long (given_type g) = refl
-  node-long (power_type g) = refl
-  node-long (range_type r) = refl
-  node-long (arrow_type a g h) = refl
-
   -- the marks of a declaration and those behind it
   one-marked : (k s : ℕ) (S : Bounds)
       → marks_of true (suc k) (declaration_code i e d ρ ++ rest) s S ≡ set (marks_of true k rest s S) (number_of_name ρ d.declared e + s) (type_bound d.type)
@@ -183,9 +178,6 @@ inputs-over : (gs : List Given) (ρ : Numbering) (xs : List Parameter) (y : Lett
     → shown_on (parameters_of gs inward xs) ρ (set S (number_of_name ρ y shriek) n) ≡ set (shown_on (parameters_of gs inward xs) ρ S) (number_of_name ρ y shriek) n
 unfolding parameters_of
 inputs-over gs ρ xs y S n = inputs_apart gs ρ (map (λ (x : Parameter). x.declaration) (filter (λ (x : Parameter). is_input x.direction) xs)) y S n
-
-no_shift : (n : ℕ) → n + 0 ≡ n
-no_shift n = omega arith
 
 abbrev inputs_of : List Given → List Parameter → List Variable
 inputs_of gs xs = parameters_of gs inward xs
@@ -262,7 +254,7 @@ module _ (gs : List Given) (ρ : Numbering) (S : Bounds) where
   parameters-of (x ∷ xs) t u i =
       one-marked i (ending_of x.direction) x.declaration ρ (parameter_codes (i + 3 + type_width x.declaration.type) xs ρ) (length xs) 0 S
       ∙ ap₂ (λ (T : Bounds) (n : ℕ). set T n (type_bound x.declaration.type)) (parameters-of xs (tail-fit t) (tail-near u) (i + 3 + type_width x.declaration.type))
-      (no_shift (number_of_name ρ x.declaration.declared (ending_of x.direction)))
+      (add-zero (number_of_name ρ x.declaration.declared (ending_of x.direction)))
       ∙ parameter-one x xs (head-fit t) (head_near u) x.direction refl
 
   pub parameters-marks : (xs : List Parameter) → TypesFit gs (map (λ (x : Parameter). x.declaration) xs) → TypesNear (map (λ (x : Parameter). x.declaration) xs) → (i : ℕ)

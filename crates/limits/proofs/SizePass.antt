@@ -2,8 +2,7 @@
 use mathlib.Core.Path.{◌≡◌, ap, ap₂, sym, subst, ◌∙◌}
 use mathlib.Core.Bool.{true, false}
 use mathlib.Core.List.{List, [], ◌++◌, map}
-use Prim.Native.Nat.{ℕ, ◌+◌, ◌-◌, ◌*◌, ◌≤◌, ◌<◌}
-use native.Mathlib.Omega.{arith}
+use Prim.Native.Nat.{ℕ, ◌+◌, ◌*◌, ◌≤◌, ◌<◌}
 use lib.ListN.{length, take, replicate}
 use Rattle.lexical.specs.Symbols.{no_ending, prime}
 use Rattle.form.specs.Tree.{Pred, Given, Declaration, declarations, Parameter, State, Operation, Dossier}
@@ -11,7 +10,7 @@ use Rattle.form.specs.Codes.{Numbering, declaration_codes, parameter_codes}
 use Rattle.static_rules.specs.Carriers.{Variable}
 use Rattle.static_rules.specs.Scope.{variables, unprimed, primed, inputs, outputs, operation_reach}
 use Rattle.type_rules.specs.TypesByNumber.{fault_key, lesser}
-use Rattle.declared_names.specs.PassPromises.{PartOf}
+use Rattle.node_spans.specs.ParserSections.{PartOf}
 use Rattle.node_spans.specs.Spans.{PredAt, span}
 use Rattle.term_sizes.specs.declared.Sized.{Sized}
 use Rattle.term_sizes.specs.SizesByNumber.{Bounds, pred_over}
@@ -20,7 +19,8 @@ use Rattle.binding_counts.specs.DeclaredTypesFit.{TypesFit}
 use Rattle.limits.specs.DossierSizesByNumber.{shown_sizes, TypesNear, marks, marks_of, marked, Clear, ContextSeen, over_of, states_over, conditions_over, operation_over, PartSeen, OperationSeen}
 use Rattle.limits.proofs.SizeMarks.{restored}
 use Rattle.limits.proofs.ReachMarks.{shown_on, sizes-on, shown-append, group-marks, plain-ending, primed-ending, parameters-marks}
-use Rattle.binding_counts.proofs.BindingSpans.{part-stands, never}
+use Rattle.node_spans.proofs.StandingParts.{part-stands, part-read}
+use Rattle.binding_counts.proofs.BindingSpans.{never}
 
 -- ---- one predicate ----
 
@@ -162,7 +162,7 @@ operation-seen nodes spans a c p k x y e₁ e₂ S U₁ U₂ f g r qx qy h q₁ 
       kept = λ l. k₂.kept (clear-on S U₁ (k₁.kept l) l) ∙ k₁.kept l;
       right =
           λ m d ρ i o l z at t u.
-          let is = part-stands nodes _ _ x y p _ qx qy h at.parameters in
+          let is = part-stands nodes _ _ p _ (part-read nodes _ _ _ _ p qx qy h) at.parameters in
           e
           ∙ ap₂ lesser
           (over-of nodes a a 1 p e₁ S U₁ f k₁ _ _ _ (length S) _ ρ (operation_reach d d.abstract o) q₁ at.abstractly

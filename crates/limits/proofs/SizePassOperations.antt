@@ -1,19 +1,17 @@
 -- The pass for number 13: a loop over the operations of a dossier, and all of its parts.
-use mathlib.Core.Path.{◌≡◌, refl, ap, ap₂, sym, subst, ◌∙◌}
-use mathlib.Core.Bool.{Bool, true, false}
+use mathlib.Core.Path.{◌≡◌, ap, ap₂, sym, subst, ◌∙◌}
 use mathlib.Core.List.{List, [], ◌∷◌}
 use mathlib.Core.Logic.{◌⊎◌, inl, inr}
 use Prim.Native.Nat.{ℕ, suc, ◌+◌, ◌*◌, ◌≤◌, ◌<◌}
 use native.Mathlib.Omega.{arith}
-use lib.Dec.{leb}
 use lib.ListN.{length, replicate, length-replicate, get_or-eq_default}
-use borrow.Author.Tests.{leb-true, leb-false}
+use Rattle.std.proofs.lemmas.Bool.{cases_lt}
 use Rattle.form.specs.Tree.{Letters, Operation, Dossier}
 use Rattle.form.specs.Headings.{operations_at, operation_length}
 use Rattle.form.specs.Codes.{Numbering, pred_width}
 use Rattle.static_rules.specs.Scope.{contexts, operation_contexts, concrete_taken}
 use Rattle.type_rules.specs.TypesByNumber.{lesser}
-use Rattle.declared_names.specs.PassPromises.{PartOf}
+use Rattle.node_spans.specs.ParserSections.{PartOf}
 use Rattle.names.proofs.TypesAgreeLeast.{lesser-zero, lesser-assoc, zero-lesser}
 use Rattle.node_spans.specs.Spans.{span, OperationsAt, one_more}
 use Rattle.term_sizes.specs.SizesByNumber.{Bounds}
@@ -22,7 +20,7 @@ use Rattle.binding_counts.specs.DeclaredTypesFit.{OperationsFit}
 use Rattle.limits.specs.DossierSizesByNumber as near
 use Rattle.limits.specs.DossierSizesByNumber.{context_over, least_over, OperationsNear, Clear, Ready, states_over, conditions_over, operation_over, operations_over, PartSeen, OperationSeen, MeasuresSeen}
 use Rattle.limits.proofs.SizePass.{clear-on}
-use Rattle.binding_counts.proofs.BindingSpans.{part-stands}
+use Rattle.node_spans.proofs.StandingParts.{part-stands}
 
 -- ---- operations ----
 
@@ -117,15 +115,8 @@ operations-more nodes spans n a c k f g h S T U seen e below w l =
 
 -- ---- how many operations the spans have room for ----
 
-eighteen : (k : ℕ) → (k < 18) ⊎ (18 ≤ k)
-eighteen k = on (leb 18 k) refl
-  where
-    on : (b : Bool) → leb 18 k ≡ b → (k < 18) ⊎ (18 ≤ k)
-    on true e = inr (leb-true 18 k e)
-    on false e = inl (leb-false 18 k e)
-
 in_spans : (spans : List ℕ) (k : ℕ) → length spans ≡ 80 → 4 ≤ span spans (9 + 4 * k) → k < 18
-in_spans spans k l h = on (eighteen k)
+in_spans spans k l h = on (cases_lt k 18)
   where
     out : 18 ≤ k → ⊥
     out m = let z : span spans (9 + 4 * k) ≡ 0 = get_or-eq_default spans 0 (omega arith) in omega arith
@@ -156,11 +147,11 @@ all-contexts d ρ N = lesser-assoc _ _ _ ∙ ap (lesser _) (ap (lesser _) (lesse
 clear-again : (N : ℕ) (U : Bounds) → U ≡ replicate N 0 → Clear U × (length U ≡ N)
 clear-again N U e = let l : length U ≡ N = ap length e ∙ length-replicate N 0 in (e ∙ ap (λ (n : ℕ). replicate n 0) (sym l), l)
 
-pub measures-seen : (nodes spans a c : List ℕ) (n x₁ y₁ x₂ y₂ N : ℕ) (S₁ S₂ S₃ S₄ : Bounds) (f g h r : ℕ) → S₁ ≡ replicate N 0
-    → x₁ ≡ span spans 0 → y₁ ≡ span spans 1 → PartOf nodes x₁ y₁ a → x₂ ≡ span spans 3 → y₂ ≡ span spans 4 → PartOf nodes x₂ y₂ c
+pub measures-seen : (nodes spans a c : List ℕ) (n N : ℕ) (S₁ S₂ S₃ S₄ : Bounds) (f g h r : ℕ) → S₁ ≡ replicate N 0
+    → PartOf nodes (span spans 0) (span spans 1) a → PartOf nodes (span spans 3) (span spans 4) c
     → PartSeen nodes spans n a c states_over S₁ S₂ f → PartSeen nodes spans n a c conditions_over S₂ S₃ g → PartSeen nodes spans n a c operations_over S₃ S₄ h → r ≡ lesser f (lesser g h)
     → MeasuresSeen nodes spans n N r
-measures-seen nodes spans a c n x₁ y₁ x₂ y₂ N S₁ S₂ S₃ S₄ f g h r z p₁ q₁ w₁ p₂ q₂ w₂ A B C e d ρ s t u =
+measures-seen nodes spans a c n N S₁ S₂ S₃ S₄ f g h r z w₁ w₂ A B C e d ρ s t u =
     let l₁ = (clear-again N S₁ z).0 in
     let m₁ = (clear-again N S₁ z).1 in
     let k₂ : S₂ ≡ S₁ = A.kept l₁ in
@@ -172,8 +163,8 @@ measures-seen nodes spans a c n x₁ y₁ x₂ y₂ N S₁ S₂ S₃ S₄ f g h 
       structured = s;
       fit = t;
       near = u;
-      abstracts = part-stands nodes _ _ x₁ y₁ a _ p₁ q₁ w₁ s.abstract.variables;
-      concretes = part-stands nodes _ _ x₂ y₂ c _ p₂ q₂ w₂ s.concrete.variables;
+      abstracts = part-stands nodes _ _ a _ w₁ s.abstract.variables;
+      concretes = part-stands nodes _ _ c _ w₂ s.concrete.variables;
     } in
     e
     ∙ ap₂ lesser (A.right d ρ l₁ y ∙ ap (states_over d ρ) m₁)

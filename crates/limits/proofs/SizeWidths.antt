@@ -1,5 +1,6 @@
--- How far the sizes of a tree go: as many symbols as it has. The laws of judgements (names' TypesAgreeWidths) go the same way over another definition; one law for both
--- would take from each side an equation for each of the 24 clauses, which the two inductions find by computing.
+-- How far the sizes of a tree go: as many symbols as it has.
+-- Form 8: the laws of judgements (names' TypesAgreeWidths) go the same way over another definition; one law for both would be handed, from each side, an equation for each of the
+-- 25 clauses that says where the symbol behind it stands, and so would be longer than the two inductions, which find these by computing.
 use mathlib.Core.Path.{◌≡◌}
 use mathlib.Core.List.{◌∷◌}
 use Prim.Native.Nat.{ℕ, suc, ◌+◌}

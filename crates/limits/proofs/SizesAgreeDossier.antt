@@ -26,11 +26,9 @@ use Rattle.names.proofs.PassAgreesTypes.{TypeIn}
 use Rattle.names.proofs.PassAgreesDeclared.{TypedIn, one_typed}
 use Rattle.names.proofs.PassAgreesOperations.{OperationsIn, no_operations, one_operation}
 use Rattle.names.proofs.PassAgrees.{DossierIn}
-use Rattle.node_spans.specs.Spans.{Structured}
 use Rattle.term_sizes.specs.SizesByNumber.{Bounds}
-use Rattle.binding_counts.specs.DeclaredTypesFit.{DeclaredFit}
 use Rattle.limits.specs.DossierSizesByNumber as near
-use Rattle.limits.specs.DossierSizesByNumber.{shown_sizes, context_over, least_over, EndsNear, TypesNear, OperationsNear, DeclaredNear, MeasuresSeen}
+use Rattle.limits.specs.DossierSizesByNumber.{shown_sizes, context_over, least_over, EndsNear, TypesNear, OperationsNear, DeclaredNear}
 use Rattle.limits.proofs.SizesAgreeScope.{SizesShown, size_found, size_of_name}
 use Rattle.limits.proofs.SizesAgree.{measured_pred}
 use Rattle.lexical.proofs.Zeros.{zero-at}
@@ -190,8 +188,3 @@ dossier-near P d h =
       concretes = declared-near (declarations d.concrete) h.concrete_in;
       parameters = operations-near h.operations_in;
     }
-
--- the fault that `measures` finds is the least of the definitions' list
-pub measures-fault : (nodes spans : List ℕ) (m n r : ℕ) → MeasuresSeen nodes spans m n r → (ρ : Numbering) (P : Letters → Type 0) → Numbered ρ P → (d : Dossier) → DossierIn P d
-    → Structured nodes spans m d ρ → DeclaredFit d → 16384 ≤ n → r ≡ least_key (size_faults d)
-measures-fault nodes spans m n r h ρ P ν d i s f l = h d ρ s f (dossier-near P d i) ∙ measures-least ρ P ν d i n l

@@ -11,14 +11,14 @@ use lib.Seq.{get_or-set_same, get_or-set_other}
 use borrow.Author.Tests.{lt-ltb, le-ltb}
 use Rattle.lexical.specs.Lists.{same, find}
 use Rattle.lexical.specs.Symbols.{Name, Ending, no_ending, prime, query, shriek}
-use Rattle.lexical.proofs.WordLaws.{same_refl, same_true}
+use Rattle.lexical.proofs.WordLaws.{same_refl, same_true, same_turned}
 use Rattle.form.specs.Tree.{Letters, Domain, given_set, range}
 use Rattle.form.specs.Codes.{Numbering, number_of_name, name_number}
 use Rattle.static_rules.specs.Carriers.{largest, same_name, plain, signed}
 use Rattle.static_rules.specs.Limits.{Sizes, domain_size}
 use Rattle.type_rules.specs.TypesByNumber.{entry}
 use Rattle.names.proofs.ReachTables.{Numbered, DomainIn}
-use Rattle.names.proofs.TypesAgreeScope.{find-here, find-there, apart, turned}
+use Rattle.names.proofs.TypesAgreeScope.{find-here, find-there, apart}
 use Rattle.term_sizes.specs.SizesByNumber.{Bounds, absolute, domain_bound}
 
 -- the size of a name that was looked up; nameSize of static_rules/specs/Limits, which is private there
@@ -67,7 +67,7 @@ module _ (ρ : Numbering) (P : Letters → Type 0) (ν : Numbered ρ P) (Γ : Si
       on no_ending true q =
           subst (λ (l : Letters). entry (set S (number_of_name ρ x no_ending) n) (number_of_name ρ l no_ending) ≡ size_of_name ((plain x, n) ∷ Γ) (plain l))
           (sym (same_true y.letters x q)) this-size
-      on no_ending false q = other-size (plain y.letters) py (turned x y.letters q) (λ e. apart ρ P ν x y.letters px py q (omega arith))
+      on no_ending false q = other-size (plain y.letters) py (same_turned x y.letters q) (λ e. apart ρ P ν x y.letters px py q (omega arith))
       on prime b q = other-size (record { letters = y.letters; ending = prime }) py refl (omega arith)
       on query b q = other-size (record { letters = y.letters; ending = query }) py refl (omega arith)
       on shriek b q = other-size (record { letters = y.letters; ending = shriek }) py refl (omega arith)

@@ -6,8 +6,7 @@ ghost use Rattle.limits.specs.DossierSizesByNumber.{entry_size, marks, marked, C
 use form::name_endings::{PLAIN, PRIMED};
 use form::{node, shapes};
 use names::NAMES;
-use names::passes::{States, part};
-use node_spans::{Parts, span};
+use node_spans::{Parts, States, span};
 use refusals::Fault;
 use term_sizes::sizes::{absolute_of, pred};
 use type_rules::kinds::{lesser_of, put};
@@ -36,13 +35,13 @@ impl Reach<'_> {
     }
 }
 
-// What the table then has of a variable by its type's node, which begins at `at`: a range has a size, and only where names come into reach.
-fn size_at<const ON: bool>(code: &[u16], at: usize) -> u16
-    requires { at + 4 ≤ length code.now }
-    ensures { result ≡ entry_size ON code.now at }
+// What the table then has of a variable by the nodes from its type's on: a range has a size, and only where names come into reach.
+fn size_at<const ON: bool>(t: &[u16]) -> u16
+    requires { 4 ≤ length t.now }
+    ensures { result ≡ entry_size ON t.now 0 }
 {
-    match code[at + node::SHAPE] {
-        shapes::RANGE if ON => absolute_of(code[at + node::A]).max(absolute_of(code[at])),
+    match t[node::SHAPE] {
+        shapes::RANGE if ON => absolute_of(t[node::A]).max(absolute_of(t[0])),
         _ => 0,
     }
 }
@@ -52,7 +51,7 @@ fn mark<const ON: bool>(code: &[u16], shift: u16, bounds: &mut [u16])
     ensures { bounds.new ≡ marks ON code.now shift bounds.old }
 {
     for d in code.chunks_exact(node::DECLARATION).rev() {
-        let n = size_at::<ON>(d, node::SIZE);
+        let n = size_at::<ON>(&d[node::SIZE..]);
         put(bounds, usize::from(d[node::A]) + usize::from(shift), n);
     }
 }
@@ -114,7 +113,7 @@ fn operation(p: &Parts<'_>, s: &States<'_>, k: usize, bounds: &mut [u16]) -> Opt
         first: s.abstracts,
         second: s.abstracts,
         shift: PRIMED,
-        third: part(p.nodes, o.first, o.last),
+        third: p.parameters(&o),
     };
     let c = Reach {
         first: s.concretes,
@@ -147,18 +146,7 @@ pub fn measures(p: &Parts<'_>) -> Option<Fault>
         return None;
     }
     let mut bounds = [0u16; NAMES];
-    let s = States {
-        abstracts: part(
-            p.nodes,
-            p.span(span::ABSTRACT_FIRST),
-            p.span(span::ABSTRACT_LAST),
-        ),
-        concretes: part(
-            p.nodes,
-            p.span(span::CONCRETE_FIRST),
-            p.span(span::CONCRETE_LAST),
-        ),
-    };
+    let s = p.states();
     let f = states(p, &s, &mut bounds);
     let g = conditions(p, &s, &mut bounds);
     let h = operations(p, &s, &mut bounds);

@@ -5,20 +5,19 @@ use mathlib.Core.List.{List, [], ◌∷◌, ◌++◌, map, append_assoc}
 use mathlib.Core.Option.{Option, none, some, none-ne-some, some-injective}
 use Prim.Native.Nat.{ℕ, zero, suc, ◌+◌, ◌*◌, ◌/◌, ◌%◌, ◌^◌, ◌<◌, ◌≤◌}
 use native.Mathlib.Nat.{mod-lt, div-lt_iff_lt-mul, zero-lt-suc}
-use native.Mathlib.Decide.{dec_lt}
 use native.Mathlib.Omega.{arith}
 use lib.IntN.{ℤ, pos}
 use lib.ListN.{length, take, get_or, get_elem?}
 use lib.Seq.{take_all}
 use borrow.Author.Tests.{ne_eqb}
 use Rattle.lexical.specs.Lists.{bytes}
-use Rattle.lexical.specs.Symbols.{Name, Ending, no_ending, prime, query, shriek}
-use Rattle.form.specs.Tree.{Letters, Arrow, relation, partial, total, Given, elements, Declaration, declarations, State, Operation, Dossier}
+use Rattle.lexical.specs.Symbols.{Name, Ending, no_ending, prime}
+use Rattle.form.specs.Tree.{Letters, Arrow, relation, partial, total, Given, elements, Declaration, declarations, State, Dossier}
 use Rattle.static_rules.specs.Carriers.{Carrier, elements_of, numbers, subsets_of, pairs_in, Variable, size_of, count_of, arrow_count, carrier_of}
-use Rattle.static_rules.specs.Scope.{variables, parameters_of, unprimed, primed, inputs, outputs}
+use Rattle.static_rules.specs.Scope.{variables, unprimed, primed}
 use Rattle.static_rules.specs.Limits.{binding_count}
 use Rattle.sets.specs.Sets.{has, members_from, members, width}
-use Rattle.sets.proofs.Members.{has-past}
+use Rattle.sets.proofs.MaskBits.{member-below}
 use Rattle.meaning.specs.Values.{natural}
 use Rattle.meaning.specs.Meaning.{Binding}
 use Rattle.meaning.specs.Bindings.{bindings}
@@ -57,16 +56,9 @@ same-members f g s k (suc n) h = go (has s k) refl (same-members f g s (suc k) n
     go true e r = ap₂ ◌∷◌ (h k e) r
     go false e r = r
 
-member_below : (n s j : ℕ) → s < 2 ^ n → has s j ≡ true → j < n
-member_below n s j l e = go (dec_lt j n)
-  where
-    go : Dec (j < n) → j < n
-    go (yes h) = h
-    go (no h) = let z : true ≡ false = sym e ∙ has-past n s j l (omega arith) in let y : ◌≡◌ {A = ℕ} 0 1 = cc in omega arith
-
 below-members : (f g : ℕ → List ℕ) (n s : ℕ) → s < 2 ^ n → ((j : ℕ) → j < n → f j ≡ g j) → map f (members s) ≡ map g (members s)
 unfolding members
-below-members f g n s l h = same-members f g s 0 width (λ j e. h j (member_below n s j l e))
+below-members f g n s l h = same-members f g s 0 width (λ j e. h j (member-below n s j l e))
 
 pair-set-below : (a : Arrow) (n m k : ℕ) → 0 < m → k < arrow_count a n m → pair_set_at a n m k < 2 ^ (n * m)
 unfolding arrow_count pair_set_at
@@ -190,29 +182,14 @@ after-lines (v ∷ vs) (x ∷ b) = ap (λ (l : List ℕ). name_bytes v.called ++
 -- ---- the groups of a dossier
 
 module _ (text labels : List ℕ) (d : Dossier) (spelt : ElementsAt text labels d.givens) (i s k : ℕ) (σ : List ℤ) where
-  pub state-lines : (x : State) → LabelsFrom text labels d.givens i (unprimed d x) → k < binding_count (unprimed d x) → Holding σ s (get_or (bindings (unprimed d x)) k [])
-      → group_piece text labels i (length (unprimed d x)) s 0 σ ≡ binding_lines (unprimed d x) (get_or (bindings (unprimed d x)) k [])
-  state-lines x l q h =
-      group_lines text labels d.givens spelt no_ending i s k (unprimed d x) σ l q h
-      ∙ ap (λ (vs : List Variable). binding_lines vs (get_or (bindings (unprimed d x)) k [])) (ended-variables d.givens no_ending no_ending (declarations x))
+  -- declared variables whose labels are those of another ending
+  pub declared-lines : (e f : Ending) (ds : List Declaration) → LabelsFrom text labels d.givens i (variables d.givens e ds) → k < binding_count (variables d.givens e ds)
+      → Holding σ s (get_or (bindings (variables d.givens e ds)) k [])
+      → group_piece text labels i (length (variables d.givens e ds)) s (ending_byte f) σ ≡ binding_lines (variables d.givens f ds) (get_or (bindings (variables d.givens e ds)) k [])
+  declared-lines e f ds l q h =
+      group_lines text labels d.givens spelt f i s k (variables d.givens e ds) σ l q h
+      ∙ ap (λ (vs : List Variable). binding_lines vs (get_or (bindings (variables d.givens e ds)) k [])) (ended-variables d.givens e f ds)
 
   pub primed-lines : (x : State) → LabelsFrom text labels d.givens i (unprimed d x) → k < binding_count (unprimed d x) → Holding σ s (get_or (bindings (unprimed d x)) k [])
       → group_piece text labels i (length (unprimed d x)) s 39 σ ≡ binding_lines (primed d x) (after (get_or (bindings (unprimed d x)) k []))
-  primed-lines x l q h =
-      group_lines text labels d.givens spelt prime i s k (unprimed d x) σ l q h
-      ∙ ap (λ (vs : List Variable). binding_lines vs (get_or (bindings (unprimed d x)) k [])) (ended-variables d.givens no_ending prime (declarations x))
-      ∙ sym (after-lines (primed d x) (get_or (bindings (unprimed d x)) k []))
-
-  pub input-lines : (op : Operation) → LabelsFrom text labels d.givens i (inputs d op) → k < binding_count (inputs d op) → Holding σ s (get_or (bindings (inputs d op)) k [])
-      → group_piece text labels i (length (inputs d op)) s 63 σ ≡ binding_lines (inputs d op) (get_or (bindings (inputs d op)) k [])
-  unfolding parameters_of
-  input-lines op l q h =
-      group_lines text labels d.givens spelt query i s k (inputs d op) σ l q h
-      ∙ ap (λ (vs : List Variable). binding_lines vs (get_or (bindings (inputs d op)) k [])) (ended-variables d.givens query query _)
-
-  pub output-lines : (op : Operation) → LabelsFrom text labels d.givens i (outputs d op) → k < binding_count (outputs d op) → Holding σ s (get_or (bindings (outputs d op)) k [])
-      → group_piece text labels i (length (outputs d op)) s 33 σ ≡ binding_lines (outputs d op) (get_or (bindings (outputs d op)) k [])
-  unfolding parameters_of
-  output-lines op l q h =
-      group_lines text labels d.givens spelt shriek i s k (outputs d op) σ l q h
-      ∙ ap (λ (vs : List Variable). binding_lines vs (get_or (bindings (outputs d op)) k [])) (ended-variables d.givens shriek shriek _)
+  primed-lines x l q h = declared-lines no_ending prime (declarations x) l q h ∙ sym (after-lines (primed d x) (get_or (bindings (unprimed d x)) k []))

@@ -21,7 +21,7 @@ use Rattle.obligations.specs.Report.{ending_bytes, signed_decimal, braced}
 use Rattle.labels.specs.Labels.{label_of}
 use Rattle.pieces.specs.PiecePromises.{Adds, letters_at}
 use Rattle.pieces.specs.declared.Writer.{Writer}
-use Rattle.pieces.proofs.WrittenPieces.{nothing_added, both-added, letters-length}
+use Rattle.pieces.proofs.WrittenPieces.{piece_is, nothing_added, both-added, letters-length}
 use Rattle.pieces.proofs.Signs.{signed-length}
 use Rattle.lines.specs.LinesByNumber.{element_piece, pair_piece, member_piece, value_piece, ending_byte, byte_piece, ending_piece, line_piece, group_piece}
 use Rattle.lines.specs.MembersByNumber.{members_piece}
@@ -29,13 +29,10 @@ use Rattle.lines.proofs.MemberLaws.{braced-are, members-here, members-there, mem
 
 -- a piece chosen by a test
 pub when_true : (p q : List ℕ) {t : Bool} {v w : Writer} → t ≡ true → Adds p v w → Adds (cond t p q) v w
-when_true p q {t} {v} {w} e a = subst (λ (x : Bool). Adds (cond x p q) v w) (sym e) a
+when_true p q e a = piece_is (ap (λ (x : Bool). cond x p q) (sym e)) a
 
 pub when_false : (p q : List ℕ) {t : Bool} {v w : Writer} → t ≡ false → Adds q v w → Adds (cond t p q) v w
-when_false p q {t} {v} {w} e a = subst (λ (x : Bool). Adds (cond x p q) v w) (sym e) a
-
-piece_is : {p q : List ℕ} {v w : Writer} → p ≡ q → Adds p v w → Adds q v w
-piece_is {v = v} {w} e a = subst (λ (s : List ℕ). Adds s v w) e a
+when_false p q e a = piece_is (ap (λ (x : Bool). cond x p q) (sym e)) a
 
 cond-length : (t : Bool) (p q : List ℕ) (n : ℕ) → length p ≤ n → length q ≤ n → length (cond t p q) ≤ n
 cond-length true p q n h k = h
@@ -237,7 +234,7 @@ module _ (text labels : List ℕ) where
           let rest : group_piece text labels (i + (k + 1)) (n - (k + 1)) (s + (k + 1)) e σ ≡ group_piece text labels (suc (i + k)) (n - (k + 1)) (suc (s + k)) e σ =
           λ h. group_piece text labels (first h) (n - (k + 1)) (slot h) e σ in
           m.rest u
-          (subst (λ (left : ℕ). Adds (group_piece text labels (i + k) left (s + k) e σ) now u) more
+          (piece_is (ap (λ (left : ℕ). group_piece text labels (i + k) left (s + k) e σ) more)
           (both-added (piece_is (ap (line_piece text labels (i + k) e) hx) v) (piece_is rest w)));
       long = v.written.long ∙ m.long;
       short = omega (arith, v.written.end, l, m.short);
@@ -247,4 +244,4 @@ module _ (text labels : List ℕ) where
     unfolding group_piece
     lines-added k now h m =
         let none : n - k ≡ 0 = omega arith in
-        m.rest now (subst (λ (left : ℕ). Adds (group_piece text labels (i + k) left (s + k) e σ) now now) (sym none) (nothing_added now))
+        m.rest now (piece_is (ap (λ (left : ℕ). group_piece text labels (i + k) left (s + k) e σ) (sym none)) (nothing_added now))

@@ -92,8 +92,14 @@ module _ (code : List ℕ) (e s : ℕ) (l : e ≤ length code) (T : Names) (W : 
   pub pred-short : (r : Made) → r.start ≡ 0 → e < 4 → PredMade code e s T T W W z out out r
   pred-short r q lt = record { walked = unmoved r q; right = λ p i ρ base y. absurd (too_short code e l base (ends_p p i ρ) lt y) }
 
-  pub term-other : (r : Made) → r.start ≡ 0 → (1 ≤ get_or code (e - 4 + 3) 0 → get_or code (e - 4 + 3) 0 ≤ 10 → ⊥) → TermMade code e s T T W W z out out r
-  term-other r q n = record { walked = unmoved r q; right = λ t i ρ base y. absurd (no-term code e l n t i ρ base y) }
+  pub term-other : {m : ℕ} (r : Made) → r.start ≡ 0 → m ≡ e - 4 → (1 ≤ get_or code (m + 3) 0 → get_or code (m + 3) 0 ≤ 10 → ⊥) → TermMade code e s T T W W z out out r
+  term-other r q at n = record {
+    walked = unmoved r q;
+    right = λ t i ρ base y. absurd (no-term code e l (subst (λ (m : ℕ). 1 ≤ get_or code (m + 3) 0 → get_or code (m + 3) 0 ≤ 10 → ⊥) at n) t i ρ base y);
+  }
 
-  pub pred_other : (r : Made) → r.start ≡ 0 → (1 ≤ get_or code (e - 4 + 3) 0 → get_or code (e - 4 + 3) 0 ≤ 8 → ⊥) → PredMade code e s T T W W z out out r
-  pred_other r q n = record { walked = unmoved r q; right = λ p i ρ base y. absurd (no_pred code e l n p i ρ base y) }
+  pub pred_other : {m : ℕ} (r : Made) → r.start ≡ 0 → m ≡ e - 4 → (1 ≤ get_or code (m + 3) 0 → get_or code (m + 3) 0 ≤ 8 → ⊥) → PredMade code e s T T W W z out out r
+  pred_other r q at n = record {
+    walked = unmoved r q;
+    right = λ p i ρ base y. absurd (no_pred code e l (subst (λ (m : ℕ). 1 ≤ get_or code (m + 3) 0 → get_or code (m + 3) 0 ≤ 8 → ⊥) at n) p i ρ base y);
+  }

@@ -1,5 +1,5 @@
 -- What the walk made of the terms and pairs of a brace, from what its callees promise and the node that it wrote last.
-use mathlib.Core.Path.{◌≡◌, refl, ap, ap₂, ◌∙◌}
+use mathlib.Core.Path.{◌≡◌, refl, sym, ap, ap₂, ◌∙◌, subst}
 use mathlib.Core.List.{List, ◌++◌}
 use Prim.Native.Nat.{ℕ, suc, ◌+◌, ◌-◌, ◌≤◌}
 use native.Mathlib.Omega.{arith}
@@ -19,13 +19,19 @@ module _ (code : List ℕ) (e s : ℕ) (l : e ≤ length code) (far : 4 ≤ e) (
   room : e ≤ length out
   room = omega arith
 
-  pub items-only : (U : Names) (Y : Places) (o₁ after : List ℕ) (v r : Made) → get_or code (e - 4 + 3) 0 ≡ 1 → TermMade code (e - 4) s T U W Y z out o₁ v
-      → after ≡ patch (e - 4) (node 9 0 0 0) o₁ → r.kind ≡ v.kind → r.start ≡ v.start → ItemsMade code e s T U W Y z out after r
+  pub items-only : {x : ℕ} (U : Names) (Y : Places) (o₁ after : List ℕ) (v r : Made) → x ≡ e - 4 → get_or code (x + 3) 0 ≡ 1 → TermMade code x s T U W Y z out o₁ v
+      → after ≡ patch x (node 9 0 0 0) o₁ → r.kind ≡ v.kind → r.start ≡ v.start → ItemsMade code e s T U W Y z out after r
   unfolding term_codes term_kind term_table
-  items-only U Y o₁ after v r q hv p kq sq = record { walked = one-walked e T W out far room U Y o₁ _ after v r hv.walked n sq; right = right }
+  items-only U Y o₁ after v r at q₀ hv₀ p kq sq = record { walked = one-walked e T W out far room U Y o₁ _ after v r hv.walked n sq; right = right }
     where
       n : Noded e (node 9 0 0 0) o₁ after
-      n = record { four = refl; written = p }
+      n = record { four = refl; written = p ∙ ap (λ (x : ℕ). patch x (node 9 0 0 0) o₁) at }
+
+      q : get_or code (e - 4 + 3) 0 ≡ 1
+      q = ap (λ (x : ℕ). get_or code (x + 3) 0) (sym at) ∙ q₀
+
+      hv : TermMade code (e - 4) s T U W Y z out o₁ v
+      hv = subst (λ (x : ℕ). TermMade code x s T U W Y z out o₁ v) at hv₀
 
       right : (ts : Items) (i : ℕ) (ρ : Numbering) (base : List ℕ) → take e code ≡ base ++ items_codes ts i ρ
           → Makes r (items_kind ts T ρ) (length base) e (items_table ts T W z ρ s (length base)) out after
@@ -33,19 +39,25 @@ module _ (code : List ℕ) (e s : ℕ) (l : e ≤ length code) (far : 4 ≤ e) (
           let m = hv.right t i ρ base (one-part code e l base (term_codes t i ρ) 1 0 0 0 y).before in
           one-made e out far room r _ (length base) v _ _ o₁ _ _ after m n refl (kq ∙ m.kind_is) sq
       right (also t ts) i ρ base y =
-          let h = (two-parts code e l base (term_codes t i ρ) (items_codes ts (suc (i + term_width t)) ρ) 2 0 0 0 y).is_shape in absurd (omega arith)
+          let h = (two-parts code e l base (term_codes t i ρ) (items_codes ts (suc (i + term_width t)) ρ) 2 0 0 0 y).is_shape in let f = q in absurd (omega arith)
 
-  pub items-also : (U U' : Names) (Y Y' : Places) (o₁ o₂ after : List ℕ) (u v r : Made) (m : ℕ) → (get_or code (e - 4 + 3) 0 ≡ 1 → ⊥)
-      → ItemsMade code (e - 4) s T U W Y z out o₁ u → TermMade code u.start s U U' Y Y' z o₁ o₂ v → m ≡ u.start
-      → after ≡ patch (e - 4) (node 10 m 0 0) o₂ → r.kind ≡ shared v.kind u.kind → r.start ≡ v.start → ItemsMade code e s T U' W Y' z out after r
+  pub items-also : {x : ℕ} (U U' : Names) (Y Y' : Places) (o₁ o₂ after : List ℕ) (u v r : Made) (m : ℕ) → x ≡ e - 4 → (get_or code (x + 3) 0 ≡ 1 → ⊥)
+      → ItemsMade code x s T U W Y z out o₁ u → TermMade code u.start s U U' Y Y' z o₁ o₂ v → m ≡ u.start
+      → after ≡ patch x (node 10 m 0 0) o₂ → r.kind ≡ shared v.kind u.kind → r.start ≡ v.start → ItemsMade code e s T U' W Y' z out after r
   unfolding term_codes term_kind term_table
-  items-also U U' Y Y' o₁ o₂ after u v r m q hu hv₀ mq p kq sq = record {
+  items-also U U' Y Y' o₁ o₂ after u v r m at q₀ hu₀ hv₀ mq p kq sq = record {
     walked = one-walked e T W out far room U' Y' o₂ _ after v r (then-walked e T W out far room (e - 4) U U' Y Y' o₁ o₂ u v hu.walked hv₀.walked) n sq;
     right = right;
   }
     where
       n : Noded e (node 10 m 0 0) o₂ after
-      n = record { four = refl; written = p }
+      n = record { four = refl; written = p ∙ ap (λ (x : ℕ). patch x (node 10 m 0 0) o₂) at }
+
+      q : get_or code (e - 4 + 3) 0 ≡ 1 → ⊥
+      q = subst (λ (x : ℕ). get_or code (x + 3) 0 ≡ 1 → ⊥) at q₀
+
+      hu : ItemsMade code (e - 4) s T U W Y z out o₁ u
+      hu = subst (λ (x : ℕ). ItemsMade code x s T U W Y z out o₁ u) at hu₀
 
       hv : TermMade code u.start s T U' W Y' z o₁ o₂ v
       hv = term-again code u.start s T U U' W Y Y' z o₁ o₂ v hu.walked.kept hu.walked.places_kept hv₀

@@ -1,5 +1,5 @@
 -- What the walk made that met the last node of a domain or a predicate: one law for each shape, from what its callees promise and the node that it wrote last.
-use mathlib.Core.Path.{◌≡◌, refl, sym, ap, ap₂, ◌∙◌}
+use mathlib.Core.Path.{◌≡◌, refl, sym, ap, ap₂, ◌∙◌, subst}
 use mathlib.Core.List.{List, ◌++◌}
 use mathlib.Core.Logic.{◌⊎◌, inl, inr}
 use Prim.Native.Nat.{ℕ, suc, ◌+◌, ◌-◌, ◌≤◌}
@@ -25,36 +25,51 @@ module _ (code : List ℕ) (e s : ℕ) (l : e ≤ length code) (far : 4 ≤ e) (
   room = omega arith
 
   -- a given set's name; a range
-  pub domain-given : (after : List ℕ) (r : Made) (x v c : ℕ) → get_or code (e - 4 + 3) 0 ≡ 1 → x ≡ get_or code (e - 4 + 1) 0 → v ≡ entry T x → c ≡ given_size z v
-      → after ≡ patch (e - 4) (node 13 0 1000 c) out → r.kind ≡ element_of v → r.start ≡ e - 4 → DomainMade code e T z out after r
+  pub domain-given : {m : ℕ} (after : List ℕ) (r : Made) (x v c : ℕ) → m ≡ e - 4 → get_or code (m + 3) 0 ≡ 1 → x ≡ get_or code (m + 1) 0 → v ≡ entry T x → c ≡ given_size z v
+      → after ≡ patch m (node 13 0 1000 c) out → r.kind ≡ element_of v → r.start ≡ m → DomainMade code e T z out after r
   unfolding domain_kind domain_table
-  domain-given after r x v c q xq vq cq p kq sq = record { falls = omega arith; long = noded-long e _ out after far room n; right = right }
+  domain-given after r x v c at q₀ xq vq cq p kq sq = record { falls = omega arith; long = noded-long e _ out after far room n; right = right }
     where
       n : Noded e (node 13 0 1000 c) out after
-      n = record { four = refl; written = p }
+      n = record { four = refl; written = p ∙ ap (λ (m : ℕ). patch m (node 13 0 1000 c) out) at }
+
+      q : get_or code (e - 4 + 3) 0 ≡ 1
+      q = ap (λ (m : ℕ). get_or code (m + 3) 0) (sym at) ∙ q₀
+
+      over : x ≡ get_or code (e - 4 + 1) 0
+      over = xq ∙ ap (λ (m : ℕ). get_or code (m + 1) 0) at
 
       right : (d : Domain) (i : ℕ) (ρ : Numbering) (base : List ℕ) → take e code ≡ base ++ domain_codes d i ρ → Makes r (domain_kind d T ρ) (length base) e (domain_table d T z ρ) out after
       right (range g) i ρ base y =
-          let h = (last-node code e l base 2 (i + end_width g.lower) (end_number g.lower) (end_number g.upper) y).is_shape in absurd (omega arith)
+          let h = (last-node code e l base 2 (i + end_width g.lower) (end_number g.lower) (end_number g.upper) y).is_shape in let f = q in absurd (omega arith)
       right (given_set g) i ρ base y =
           let h = last-node code e l base 1 i (name_number ρ g) 0 y in
-          let vx : v ≡ entry T (name_number ρ g) = vq ∙ ap (entry T) (xq ∙ h.is_first) in
-          leaf-made e out far room r _ (length base) _ _ after n (node-is 13 refl refl (cq ∙ ap (given_size z) vx)) (kq ∙ ap element_of vx) sq h.long
+          let vx : v ≡ entry T (name_number ρ g) = vq ∙ ap (entry T) (over ∙ h.is_first) in
+          leaf-made e out far room r _ (length base) _ _ after n (node-is 13 refl refl (cq ∙ ap (given_size z) vx)) (kq ∙ ap element_of vx) (sq ∙ at) h.long
 
-  pub domain-range : (after : List ℕ) (r : Made) (a b c : ℕ) → (get_or code (e - 4 + 3) 0 ≡ 1 → ⊥) → a ≡ get_or code (e - 4 + 1) 0 → b ≡ get_or code (e - 4) 0
-      → c ≡ range_count a b → after ≡ patch (e - 4) (node 13 0 a c) out → r.kind ≡ 1 → r.start ≡ e - 4 → DomainMade code e T z out after r
+  pub domain-range : {m : ℕ} (after : List ℕ) (r : Made) (a b c : ℕ) → m ≡ e - 4 → (get_or code (m + 3) 0 ≡ 1 → ⊥) → a ≡ get_or code (m + 1) 0 → b ≡ get_or code m 0
+      → c ≡ range_count a b → after ≡ patch m (node 13 0 a c) out → r.kind ≡ 1 → r.start ≡ m → DomainMade code e T z out after r
   unfolding domain_kind domain_table
-  domain-range after r a b c q aq bq cq p kq sq = record { falls = omega arith; long = noded-long e _ out after far room n; right = right }
+  domain-range after r a b c at q₀ aq bq cq p kq sq = record { falls = omega arith; long = noded-long e _ out after far room n; right = right }
     where
       n : Noded e (node 13 0 a c) out after
-      n = record { four = refl; written = p }
+      n = record { four = refl; written = p ∙ ap (λ (m : ℕ). patch m (node 13 0 a c) out) at }
+
+      q : get_or code (e - 4 + 3) 0 ≡ 1 → ⊥
+      q = subst (λ (m : ℕ). get_or code (m + 3) 0 ≡ 1 → ⊥) at q₀
+
+      lower : a ≡ get_or code (e - 4 + 1) 0
+      lower = aq ∙ ap (λ (m : ℕ). get_or code (m + 1) 0) at
+
+      upper : b ≡ get_or code (e - 4) 0
+      upper = bq ∙ ap (λ (m : ℕ). get_or code m 0) at
 
       right : (d : Domain) (i : ℕ) (ρ : Numbering) (base : List ℕ) → take e code ≡ base ++ domain_codes d i ρ → Makes r (domain_kind d T ρ) (length base) e (domain_table d T z ρ) out after
       right (given_set g) i ρ base y = absurd (q (last-node code e l base 1 i (name_number ρ g) 0 y).is_shape)
       right (range g) i ρ base y =
           let h = last-node code e l base 2 (i + end_width g.lower) (end_number g.lower) (end_number g.upper) y in
-          let first : a ≡ end_number g.lower = aq ∙ h.is_first in
-          leaf-made e out far room r _ (length base) _ _ after n (node-is 13 refl first (cq ∙ ap₂ range_count first (bq ∙ h.is_second))) kq sq h.long
+          let first : a ≡ end_number g.lower = lower ∙ h.is_first in
+          leaf-made e out far room r _ (length base) _ _ after n (node-is 13 refl first (cq ∙ ap₂ range_count first (upper ∙ h.is_second))) kq (sq ∙ at) h.long
 
   -- true, false
   pub pred_constant : (after : List ℕ) (r : Made) (a c : ℕ) → get_or code (e - 4 + 3) 0 ≡ 1 → a ≡ get_or code (e - 4 + 1) 0 → TruthOf a c

@@ -66,10 +66,9 @@ fn items(
     requires { WalkAsked r.now.code.now end out.old }
     ensures { ItemsMade r.now.code.now end slot names.old names.new places.old places.new r.now.sizes.now out.old out.new result }
 {
-    if end < node::SIZE {
+    let Some(at) = end.checked_sub(node::SIZE) else {
         return nothing();
-    }
-    let at = end - node::SIZE;
+    };
     if r.code[at + node::SHAPE] == shapes::LAST {
         let t = term(r, at, slot, names, places, out);
         set_node(out, at, table_shapes::LAST_ITEM, 0, 0, 0);
@@ -97,10 +96,10 @@ fn pairs(
     requires { WalkAsked r.now.code.now end out.old }
     ensures { PairsMade r.now.code.now end slot names.old names.new places.old places.new r.now.sizes.now out.old out.new result }
 {
-    if end < node::SIZE {
+    let Some(at) = end.checked_sub(node::SIZE) else {
         return nothing();
-    }
-    if r.code[end - node::SIZE + node::SHAPE] == shapes::LAST {
+    };
+    if r.code[at + node::SHAPE] == shapes::LAST {
         return last_pair(r, end, slot, names, places, out);
     }
     next_pair(r, end, slot, names, places, out)

@@ -1,6 +1,7 @@
 // The nodes that the walk writes with no call of itself: what names are bound over, numbers, names, empty sets, truth values.
 ghost use Rattle.std.specs.Prelude.{List, ℕ};
-ghost use Rattle.table_nodes.specs.TableWalkPromises.{WalkAsked, NodeAsked, DomainMade, TermMade, PredMade};
+ghost use Rattle.table_nodes.specs.TableWalkPromises.{WalkAsked, NodeAsked, DomainMade, TermMade};
+ghost use Rattle.lowering.specs.PredPromise.{PredWritten};
 
 use crate::Reading;
 use form::{node, shapes};
@@ -16,12 +17,11 @@ pub(crate) fn domain(r: &Reading<'_>, end: usize, names: &[Kind], out: &mut [u16
     requires { WalkAsked r.now.code.now end out.old }
     ensures { DomainMade r.now.code.now end names.now r.now.sizes.now out.old out.new result }
 {
-    if end < node::SIZE {
+    let Some(at) = end.checked_sub(node::SIZE) else {
         return nothing();
-    }
-    let at = end - node::SIZE;
-    let a = look(r.code, at + node::A);
-    if look(r.code, at + node::SHAPE) == shapes::SET {
+    };
+    let a = r.code[at + node::A];
+    if r.code[at + node::SHAPE] == shapes::SET {
         let e = entry(names, usize::from(a));
         let n = given_size(r.sizes, e);
         set_node(out, at, table_shapes::OVER, 0, LARGEST_NUMBER, n);
@@ -30,7 +30,7 @@ pub(crate) fn domain(r: &Reading<'_>, end: usize, names: &[Kind], out: &mut [u16
             start: at,
         };
     }
-    let b = look(r.code, at);
+    let b = r.code[at];
     let n = range_count(a, b);
     set_node(out, at, table_shapes::OVER, 0, a, n);
     Made {
@@ -45,7 +45,7 @@ pub(crate) fn number(code: &[u16], end: usize, out: &mut [u16]) -> Made
     ensures { (s : ℕ) (T W z : List ℕ) → TermMade code.now end s T T W W z out.old out.new result }
 {
     let at = end - node::SIZE;
-    let a = look(code, at + node::A);
+    let a = code[at + node::A];
     set_node(out, at, table_shapes::VALUE, 0, a, 0);
     Made {
         kind: entries::NUMBER,
@@ -65,7 +65,7 @@ pub(crate) fn named(
     ensures { (s : ℕ) (z : List ℕ) → TermMade code.now end s names.now names.now places.now places.now z out.old out.new result }
 {
     let at = end - node::SIZE;
-    let x = usize::from(look(code, at + node::A));
+    let x = usize::from(code[at + node::A]);
     let e = entry(names, x);
     let w = look(places, x);
     if w < slots::ELEMENTS {
@@ -82,7 +82,7 @@ pub(crate) fn empty_set(code: &[u16], end: usize, names: &[Kind], out: &mut [u16
     ensures { (s : ℕ) (W z : List ℕ) → TermMade code.now end s names.now names.now W W z out.old out.new result }
 {
     let at = end - node::SIZE;
-    let e = entry(names, usize::from(look(code, at + node::A)));
+    let e = entry(names, usize::from(code[at + node::A]));
     set_node(out, at, table_shapes::VALUE, 0, 0, 0);
     Made {
         kind: e.element_of().set_of(),
@@ -96,8 +96,8 @@ pub(crate) fn empty_pairs(code: &[u16], end: usize, names: &[Kind], out: &mut [u
     ensures { (s : ℕ) (W z : List ℕ) → TermMade code.now end s names.now names.now W W z out.old out.new result }
 {
     let at = end - node::SIZE;
-    let g = entry(names, usize::from(look(code, at + node::A)));
-    let h = entry(names, usize::from(look(code, at)));
+    let g = entry(names, usize::from(code[at + node::A]));
+    let h = entry(names, usize::from(code[at]));
     set_node(out, at, table_shapes::VALUE, 0, 0, 0);
     Made {
         kind: g.element_of().pair_with(h.element_of()),
@@ -106,15 +106,12 @@ pub(crate) fn empty_pairs(code: &[u16], end: usize, names: &[Kind], out: &mut [u
 }
 
 // true, false.
-pub(crate) fn constant(code: &[u16], end: usize, out: &mut [u16]) -> Made
+pub(crate) fn constant(code: &[u16], end: usize, out: &mut [u16]) -> usize
     requires { NodeAsked code.now end 1 out.old }
-    ensures { (s : ℕ) (T W z : List ℕ) → PredMade code.now end s T T W W z out.old out.new result }
+    ensures { (s : ℕ) (T W z : List ℕ) → PredWritten code.now end s T T W W z out.old out.new result }
 {
     let at = end - node::SIZE;
-    let a = look(code, at + node::A);
+    let a = code[at + node::A];
     set_node(out, at, table_shapes::TRUTH, 0, truth_of(a), 0);
-    Made {
-        kind: entries::NONE,
-        start: at,
-    }
+    at
 }

@@ -1,8 +1,9 @@
 // The walk over the nodes of terms and predicates, from their ends, that writes the table: a node for each node read, at the same place.
-// Form 2: functions of one shape (`prefixed`, `divided`, `negated`; `joined`, `sides`, `connected`; `within`, `related`) differ in what they read, in the node
+// Form 2: functions of one shape (`prefixed`, `divided`, `negated`, `paired`; `joined`, `sides`, `connected`; `within`, `related`) differ in what they read, in the node
 // that they write, and in whether a term or a predicate is promised; one function for several would be told all three, and its promise would be chosen by them.
 ghost use Rattle.std.specs.Prelude.{◌≤◌};
-ghost use Rattle.table_nodes.specs.TableWalkPromises.{WalkAsked, NodeAsked, SidesAsked, TermMade, PredMade, BoundMade};
+ghost use Rattle.table_nodes.specs.TableWalkPromises.{WalkAsked, NodeAsked, SidesAsked, TermMade, BoundMade};
+ghost use Rattle.lowering.specs.PredPromise.{PredWritten};
 
 use crate::Reading;
 use crate::braces::{listed, paired};
@@ -30,10 +31,10 @@ pub(crate) fn term(
     requires { WalkAsked r.now.code.now end out.old }
     ensures { TermMade r.now.code.now end slot names.old names.new places.old places.new r.now.sizes.now out.old out.new result }
 {
-    if end < node::SIZE {
+    let Some(at) = end.checked_sub(node::SIZE) else {
         return nothing();
-    }
-    match r.code[end - node::SIZE + node::SHAPE] {
+    };
+    match r.code[at + node::SHAPE] {
         shapes::NUMBER => number(r.code, end, out),
         shapes::NAME => named(r.code, end, names, places, out),
         shapes::PREFIX => prefixed(r, end, slot, names, places, out),
@@ -62,7 +63,7 @@ fn prefixed(
     ensures { TermMade r.now.code.now end slot names.old names.new places.old places.new r.now.sizes.now out.old out.new result }
 {
     let at = end - node::SIZE;
-    let a = look(r.code, at + node::A);
+    let a = r.code[at + node::A];
     let t = term(r, at, slot, names, places, out);
     let f = first_size(r.sizes, t.kind);
     let g = second_size(r.sizes, t.kind);
@@ -87,8 +88,8 @@ fn divided(
     ensures { TermMade r.now.code.now end slot names.old names.new places.old places.new r.now.sizes.now out.old out.new result }
 {
     let at = end - node::SIZE;
-    let a = look(r.code, at + node::A);
-    let b = look(r.code, at);
+    let a = r.code[at + node::A];
+    let b = r.code[at];
     let t = term(r, at, slot, names, places, out);
     set_node(out, at, table_shapes::DIVIDED, 0, a, b);
     Made {
@@ -111,7 +112,7 @@ fn joined(
     ensures { TermMade r.now.code.now end slot names.old names.new places.old places.new r.now.sizes.now out.old out.new result }
 {
     let at = end - node::SIZE;
-    let a = look(r.code, at + node::A);
+    let a = r.code[at + node::A];
     let u = term(r, at, slot, names, places, out);
     let t = term(r, u.start, slot, names, places, out);
     set_node(out, at, table_shapes::BINARY, u.start as u16, a, 0);
@@ -154,7 +155,7 @@ fn bound(
     ensures { BoundMade r.now.code.now end slot names.old names.new places.old places.new r.now.sizes.now out.old out.new result }
 {
     let at = end - node::SIZE;
-    let x = usize::from(look(r.code, at + node::A));
+    let x = usize::from(r.code[at + node::A]);
     let d = domain(r, at, names, out);
     let old = entry(names, x);
     let was = look(places, x);
@@ -165,11 +166,12 @@ fn bound(
     put(places, x, was);
     Made {
         kind: d.kind,
-        start: p.start,
+        start: p,
     }
 }
 
-// The predicate whose nodes end at `end`.
+// The predicate whose nodes end at `end`: where they begin.
+// Form 1: 0 where no nodes of a tree end, as `nothing` has it for terms. With an Option, `bound` would take it apart only behind the calls that restore names and places.
 #[cycle(walk)]
 pub fn pred(
     r: &Reading<'_>,
@@ -178,14 +180,14 @@ pub fn pred(
     names: &mut [Kind],
     places: &mut [u16],
     out: &mut [u16],
-) -> Made
+) -> usize
     requires { WalkAsked r.now.code.now end out.old }
-    ensures { PredMade r.now.code.now end slot names.old names.new places.old places.new r.now.sizes.now out.old out.new result }
+    ensures { PredWritten r.now.code.now end slot names.old names.new places.old places.new r.now.sizes.now out.old out.new result }
 {
-    if end < node::SIZE {
-        return nothing();
-    }
-    match r.code[end - node::SIZE + node::SHAPE] {
+    let Some(at) = end.checked_sub(node::SIZE) else {
+        return 0;
+    };
+    match r.code[at + node::SHAPE] {
         shapes::TRUTH => constant(r.code, end, out),
         shapes::NEGATION => negated(r, end, slot, names, places, out),
         shapes::CONNECTED => connected(r, end, slot, names, places, out),
@@ -194,7 +196,7 @@ pub fn pred(
         shapes::WITHIN => within(r, end, slot, names, places, out),
         shapes::RELATED => related(r, end, slot, names, places, out),
         shapes::QUANTIFIED => quantified(r, end, slot, names, places, out),
-        _ => nothing(),
+        _ => 0,
     }
 }
 
@@ -207,17 +209,14 @@ fn negated(
     names: &mut [Kind],
     places: &mut [u16],
     out: &mut [u16],
-) -> Made
+) -> usize
     requires { NodeAsked r.now.code.now end 2 out.old }
-    ensures { PredMade r.now.code.now end slot names.old names.new places.old places.new r.now.sizes.now out.old out.new result }
+    ensures { PredWritten r.now.code.now end slot names.old names.new places.old places.new r.now.sizes.now out.old out.new result }
 {
     let at = end - node::SIZE;
     let p = pred(r, at, slot, names, places, out);
     set_node(out, at, table_shapes::NEGATION, 0, 0, 0);
-    Made {
-        kind: entries::NONE,
-        start: p.start,
-    }
+    p
 }
 
 // Two predicates with a connective between them.
@@ -229,19 +228,16 @@ fn connected(
     names: &mut [Kind],
     places: &mut [u16],
     out: &mut [u16],
-) -> Made
+) -> usize
     requires { NodeAsked r.now.code.now end 3 out.old }
-    ensures { PredMade r.now.code.now end slot names.old names.new places.old places.new r.now.sizes.now out.old out.new result }
+    ensures { PredWritten r.now.code.now end slot names.old names.new places.old places.new r.now.sizes.now out.old out.new result }
 {
     let at = end - node::SIZE;
-    let a = look(r.code, at + node::A);
+    let a = r.code[at + node::A];
     let q = pred(r, at, slot, names, places, out);
-    let p = pred(r, q.start, slot, names, places, out);
-    set_node(out, at, table_shapes::CONNECTED, q.start as u16, a, 0);
-    Made {
-        kind: entries::NONE,
-        start: p.start,
-    }
+    let p = pred(r, q, slot, names, places, out);
+    set_node(out, at, table_shapes::CONNECTED, q as u16, a, 0);
+    p
 }
 
 // t = u and the other comparisons, t in u: two terms with a symbol between them; the shape is that of the node in the table.
@@ -254,19 +250,16 @@ fn sides(
     places: &mut [u16],
     out: &mut [u16],
     shape: u16,
-) -> Made
+) -> usize
     requires { SidesAsked r.now.code.now end shape out.old }
-    ensures { PredMade r.now.code.now end slot names.old names.new places.old places.new r.now.sizes.now out.old out.new result }
+    ensures { PredWritten r.now.code.now end slot names.old names.new places.old places.new r.now.sizes.now out.old out.new result }
 {
     let at = end - node::SIZE;
-    let a = look(r.code, at + node::A);
+    let a = r.code[at + node::A];
     let u = term(r, at, slot, names, places, out);
     let t = term(r, u.start, slot, names, places, out);
     set_node(out, at, shape, u.start as u16, a, 0);
-    Made {
-        kind: entries::NONE,
-        start: t.start,
-    }
+    t.start
 }
 
 // t in a..b.
@@ -278,19 +271,16 @@ fn within(
     names: &mut [Kind],
     places: &mut [u16],
     out: &mut [u16],
-) -> Made
+) -> usize
     requires { NodeAsked r.now.code.now end 6 out.old }
-    ensures { PredMade r.now.code.now end slot names.old names.new places.old places.new r.now.sizes.now out.old out.new result }
+    ensures { PredWritten r.now.code.now end slot names.old names.new places.old places.new r.now.sizes.now out.old out.new result }
 {
     let at = end - node::SIZE;
-    let a = look(r.code, at + node::A);
+    let a = r.code[at + node::A];
     let d = domain(r, at, names, out);
     let t = term(r, d.start, slot, names, places, out);
     set_node(out, at, table_shapes::WITHIN, 0, a, 0);
-    Made {
-        kind: entries::NONE,
-        start: t.start,
-    }
+    t.start
 }
 
 // t |-> u in v.
@@ -302,21 +292,18 @@ fn related(
     names: &mut [Kind],
     places: &mut [u16],
     out: &mut [u16],
-) -> Made
+) -> usize
     requires { NodeAsked r.now.code.now end 7 out.old }
-    ensures { PredMade r.now.code.now end slot names.old names.new places.old places.new r.now.sizes.now out.old out.new result }
+    ensures { PredWritten r.now.code.now end slot names.old names.new places.old places.new r.now.sizes.now out.old out.new result }
 {
     let at = end - node::SIZE;
-    let a = look(r.code, at + node::A);
+    let a = r.code[at + node::A];
     let v = term(r, at, slot, names, places, out);
     let u = term(r, v.start, slot, names, places, out);
     let t = term(r, u.start, slot, names, places, out);
     let n = element_size(r.sizes, u.kind);
     set_node(out, at, related_shape(a), u.start as u16, n, v.start as u16);
-    Made {
-        kind: entries::NONE,
-        start: t.start,
-    }
+    t.start
 }
 
 // (forall x : T @ p), and the other quantifiers.
@@ -328,16 +315,13 @@ fn quantified(
     names: &mut [Kind],
     places: &mut [u16],
     out: &mut [u16],
-) -> Made
+) -> usize
     requires { NodeAsked r.now.code.now end 8 out.old }
-    ensures { PredMade r.now.code.now end slot names.old names.new places.old places.new r.now.sizes.now out.old out.new result }
+    ensures { PredWritten r.now.code.now end slot names.old names.new places.old places.new r.now.sizes.now out.old out.new result }
 {
     let at = end - node::SIZE;
-    let b = look(r.code, at);
+    let b = r.code[at];
     let p = bound(r, end, slot, names, places, out);
     set_node(out, at, table_shapes::QUANTIFIED, 0, slot, b);
-    Made {
-        kind: entries::NONE,
-        start: p.start,
-    }
+    p.start
 }

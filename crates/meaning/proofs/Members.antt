@@ -29,32 +29,24 @@ module _ {A : Type 0} where
       go (inr h) = inr h
 
   -- `any` passes exactly if a member does
-  any_here : (f : A → Bool) (x : A) (xs : List A) → f x ≡ true → any f (x ∷ xs) ≡ true
-  unfolding any
-  any_here f x xs e = rw (e, any)
-
-  any-there : (f : A → Bool) (x : A) (xs : List A) → f x ≡ false → any f (x ∷ xs) ≡ any f xs
-  unfolding any
-  any-there f x xs e = rw (e, any)
-
   pub any_found : (f : A → Bool) (xs : List A) → any f xs ≡ true → (x : A) × Among x xs × (f x ≡ true)
   unfolding any Among
   any_found f [] e = absurd (false≢true e)
-  any_found f (x ∷ xs) e = go (f x) refl (λ q. any_found f xs (sym (any-there f x xs q) ∙ e))
+  any_found f (x ∷ xs) e = go (f x) refl (λ q. any_found f xs (rw (any, q) at e))
     where
       go : (t : Bool) → f x ≡ t → (f x ≡ false → (y : A) × Among y xs × (f y ≡ true)) → (y : A) × ((y ≡ x) ⊎ Among y xs) × (f y ≡ true)
       go true q r = (x, inl refl, q)
       go false q r = let s : (y : A) × Among y xs × (f y ≡ true) = r q in (s.0, inr s.1, s.2)
 
   pub any-put : (f : A → Bool) (x : A) (xs : List A) → Among x xs → f x ≡ true → any f xs ≡ true
-  unfolding Among
+  unfolding any Among
   any-put f x [] m e = absurd m
-  any-put f x (y ∷ xs) (inl q) e = any_here f y xs (subst (λ (z : A). f z ≡ true) q e)
+  any-put f x (y ∷ xs) (inl q) e = rw (any, ap f (sym q) ∙ e) refl
   any-put f x (y ∷ xs) (inr m) e = go (f y) refl (any-put f x xs m e)
     where
       go : (t : Bool) → f y ≡ t → any f xs ≡ true → any f (y ∷ xs) ≡ true
-      go true q r = any_here f y xs q
-      go false q r = any-there f y xs q ∙ r
+      go true q r = rw (any, q) refl
+      go false q r = rw (any, q) r
 
   -- it fails exactly if every member does
   pub any_none : (f : A → Bool) (xs : List A) → any f xs ≡ false → (x : A) → Among x xs → f x ≡ false

@@ -4,9 +4,10 @@ use mathlib.Core.Logic.{inl, inr}
 use mathlib.Core.Option.{some, none-ne-some, some-injective}
 use mathlib.Core.List.{List, [], ◌∷◌, ◌++◌, map}
 use Prim.Native.Nat.{ℕ, zero, suc, ◌+◌, ◌*◌, ◌<◌}
-use native.Mathlib.Nat.{zero-add, suc-add, zero-mul, not-suc-le-zero, le_of_suc-le-suc}
+use native.Mathlib.Nat.{zero-mul, not-suc-le-zero, le_of_suc-le-suc}
 use native.Mathlib.Omega.{arith}
-use lib.ListN.{length, get_or, get_elem?, take, drop, length-append, get_or-append}
+use lib.ListN.{length, get_or, get_elem?, length-append, get_or-append}
+use lib.Seq.{get_or-append-add}
 use Rattle.meaning.specs.Bindings.{flat, Among}
 
 module _ {A : Type 0} where
@@ -41,22 +42,6 @@ module _ {A : Type 0} where
   entry-member x (y ∷ xs) zero e = inl (sym (some-injective y x e))
   entry-member x (y ∷ xs) (suc k) e = inr (entry-member x xs k e)
 
-  -- parts of a list
-  pub at-taken : (n : ℕ) (xs : List A) (q : ℕ) (z : A) → q < n → get_or (take n xs) q z ≡ get_or xs q z
-  at-taken zero xs q z h = absurd (not-suc-le-zero h)
-  at-taken (suc n) [] q z h = refl
-  at-taken (suc n) (x ∷ xs) zero z h = refl
-  at-taken (suc n) (x ∷ xs) (suc q) z h = at-taken n xs q z (le_of_suc-le-suc h)
-
-  pub at-dropped : (p : ℕ) (xs : List A) (q : ℕ) (z : A) → get_or (drop p xs) q z ≡ get_or xs (p + q) z
-  at-dropped zero xs q z = ap (λ (k : ℕ). get_or xs k z) (sym (zero-add q))
-  at-dropped (suc p) [] q z = refl
-  at-dropped (suc p) (x ∷ xs) q z = at-dropped p xs q z ∙ ap (λ (k : ℕ). get_or (x ∷ xs) k z) (sym (suc-add p q))
-
-  pub at_right : (xs ys : List A) (q : ℕ) (z : A) → get_or (xs ++ ys) (length xs + q) z ≡ get_or ys q z
-  at_right [] ys q z = ap (λ (k : ℕ). get_or ys k z) (zero-add q)
-  at_right (x ∷ xs) ys q z = ap (λ (k : ℕ). get_or (x ∷ (xs ++ ys)) k z) (suc-add (length xs) q) ∙ at_right xs ys q z
-
 module _ {A B : Type 0} where
   -- within the list, what stands for a member past its end is of no account
   pub at_map : (f : A → B) (xs : List A) (p : ℕ) (z : A) (w : B) → p < length xs → get_or (map f xs) p w ≡ f (get_or xs p z)
@@ -81,4 +66,4 @@ module _ {A B : Type 0} where
       ap (λ (j : ℕ). get_or (f x ++ flat f xs) j w) e ∙ get_or-append (f x) (flat f xs) w q (omega (arith, u x))
   at-flat f m u (x ∷ xs) (suc p) q z w h k =
       let e : suc p * m + q ≡ length (f x) + (p * m + q) = omega (arith, u x) in
-      ap (λ (j : ℕ). get_or (f x ++ flat f xs) j w) e ∙ at_right (f x) (flat f xs) (p * m + q) w ∙ at-flat f m u xs p q z w (le_of_suc-le-suc h) k
+      ap (λ (j : ℕ). get_or (f x ++ flat f xs) j w) e ∙ get_or-append-add (f x) (flat f xs) (p * m + q) w ∙ at-flat f m u xs p q z w (le_of_suc-le-suc h) k

@@ -1,8 +1,9 @@
 -- Nodes of terms and of the items of braces, by their shapes: where the parts are free of a slot, so is the node. Assumes nothing.
-use mathlib.Core.Path.{◌≡◌, refl, sym, ap, subst, ◌∙◌}
+use mathlib.Core.Path.{◌≡◌, sym, ap, subst, ◌∙◌}
 use mathlib.Core.Bool.{Bool, true, false, not, ◌&&◌, cond}
+use mathlib.Core.Logic.{inl, inr}
 use mathlib.Core.List.{List}
-use Prim.Native.Nat.{ℕ, zero, suc, ◌-◌, ◌<◌}
+use Prim.Native.Nat.{ℕ, zero, suc, ◌-◌, ◌<◌, ◌≤◌}
 use native.Mathlib.Omega.{arith}
 use native.Mathlib.Decide.{ℕ_discrete}
 use lib.Dec.{eqb, T}
@@ -11,6 +12,7 @@ use lib.ListN.{get_or, length, set, length-set}
 use lib.Seq.{get_or-set_same, get_or-set_other, ext_get_or}
 use lib.IntN.{ℤ, pos}
 use Rattle.evaluator.specs.EvaluationEvaluationByNumber.{Values, Truths, shape_at, end_at, first_at, second_at, TermIs, ItemsIs, TruthIs}
+use Rattle.std.proofs.lemmas.Bool.{cases_lt}
 use Rattle.std.specs.Ordering.{is_le, is_lt, nat_cmp}
 use Rattle.lexical.proofs.RangeTests.{ranged, inside_range}
 use Rattle.evaluator.specs.EvaluationEvaluationByNumber.{Inside, Bound, TermNode, ItemsNode}
@@ -103,17 +105,21 @@ module _ {t : List ℕ} {e s : ℕ} where
   slot-says {i} {n} k at is =
       record { means = λ y. slot-free k (λ z. refused (sym (ap not (eq-eqb n s (is ∙ ap (λ (j : ℕ). get_or t j 0) at ∙ z))) ∙ y)) }
 
-  pub prefix-free : shape_at t e ≡ 3 → TermFree t (e - 4) s → TermFree t e s
+  prefix-free : shape_at t e ≡ 3 → TermFree t (e - 4) s → TermFree t e s
   unfolding TermNode
   prefix-free k p =
       term-free (λ f ρ τ a v. rw (TermNode, k)
       (λ n. record { operand = n.operand; part = p.frame f ρ τ a n.operand n.part; takes = n.takes; is = n.is }))
 
-  pub division-free : shape_at t e ≡ 4 → TermFree t (e - 4) s → TermFree t e s
+  division-free : shape_at t e ≡ 4 → TermFree t (e - 4) s → TermFree t e s
   unfolding TermNode
   division-free k p =
       term-free (λ f ρ τ a v. rw (TermNode, k)
       (λ n. record { operand = n.operand; part = p.frame f ρ τ a n.operand n.part; takes = n.takes; is = n.is }))
+
+  -- a prefix, or a division
+  pub alone-free : 3 ≤ shape_at t e → shape_at t e ≤ 4 → TermFree t (e - 4) s → TermFree t e s
+  alone-free h k p = elim (cases_lt (shape_at t e) 4) [ inl l ↦ prefix-free (omega arith) p | inr l ↦ division-free (omega arith) p ]
 
   pub operator-free : {l : ℕ} → shape_at t e ≡ 5 → Earlier e (end_at t e) l → TermFree t l s → TermFree t (e - 4) s → TermFree t e s
   unfolding TermNode

@@ -37,6 +37,7 @@ impl Mention<'_> {
     }
 
     // Is an earlier part of a node, which is a term?
+    // Form 4: the closure of `is_some_and` would be a sixth function of the cycle, with a measure and answers of its own, in place of the two arms.
     #[cycle(free)]
     fn free_part(&self, end: usize, back: usize) -> bool
         requires { Inside end × (0 < back) × (back ≤ 4) }
@@ -60,8 +61,7 @@ impl Mention<'_> {
         match shape {
             table_shapes::VALUE => true,
             table_shapes::SLOT => usize::from(self.table[end - FIRST_BACK]) != self.slot,
-            table_shapes::PREFIX => self.free_term(end - node::SIZE),
-            table_shapes::DIVIDED => self.free_term(end - node::SIZE),
+            table_shapes::PREFIX | table_shapes::DIVIDED => self.free_term(end - node::SIZE),
             table_shapes::BINARY => {
                 self.free_part(end, END_BACK) && self.free_term(end - node::SIZE)
             }

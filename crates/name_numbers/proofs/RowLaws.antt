@@ -7,6 +7,7 @@ use native.Mathlib.Omega.{arith}
 use native.Mathlib.Numerals.{add-one}
 use lib.ListN.{length, take, drop, get_or, set, length-map, get_or-append}
 use lib.Seq.{take-suc, take_all, get_or-take, get_or-drop, get_or-append-add, length-take-le}
+use Rattle.std.proofs.lemmas.Bool.{false_from_ne_true}
 use Rattle.lexical.specs.Lists.{same}
 use Rattle.lexical.specs.Kinds.{code_of}
 use Rattle.lexical.specs.Symbols.{run, Symbol, fixed, numeral, name, Name, Ending, no_ending, prime, query, shriek, kind_of_name, Placed, scan, symbols}
@@ -115,11 +116,7 @@ module _ (a : List ℕ) (f : Fits 16 a) (l : 1 ≤ length a) where
   has-not : (y : Symbol) → (letters_in y ≡ packed 16 a → ⊥) → has_letters a y ≡ false
   has-not (fixed k) n = refl
   has-not (numeral m) n = refl
-  has-not (name x) n = on (same a x.letters) refl
-    where
-      on : (b : Bool) → same a x.letters ≡ b → b ≡ false
-      on true q = absurd (n (ap (packed 16) (sym (same_true a x.letters q))))
-      on false q = refl
+  has-not (name x) n = false_from_ne_true (same a x.letters) (λ q. n (ap (packed 16) (sym (same_true a x.letters q))))
 
 first-named : (a : List ℕ) (l : List Placed) (m : ℕ) → m < length l → has_letters a (get_or l m nowhere).symbol ≡ true
     → ((j : ℕ) → j < m → has_letters a (get_or l j nowhere).symbol ≡ false) → first_named a l ≡ m

@@ -83,11 +83,9 @@ pub fn walk(letters: &[u128; SYMBOLS], tree: &[u16; SLOTS], i: usize) -> Stop
     let mut p = a;
     let mut slot: usize = ROOT;
     for d in 0..DEEPEST {
-        let t = usize::from(tree[slot]);
-        if t == 0 {
+        let Some(m) = usize::from(tree[slot]).checked_sub(1) else {
             return Stop::Free(slot);
-        }
-        let m = t - 1;
+        };
         if same_letters(letters, m, a) {
             return Stop::At(m);
         }

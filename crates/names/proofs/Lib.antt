@@ -1,5 +1,6 @@
 -- Names and types: the walk over nodes, and what it finds.
 pub mod WholePass
+pub mod DeclaredAhead
 pub mod PassSteps
 pub mod PassStepsOperations
 pub mod ReachTables

@@ -8,6 +8,7 @@ use native.Mathlib.Omega.{arith}
 use lib.Dec.{eqb, ltb}
 use lib.ListN.{length}
 use borrow.Author.Tests.{ne_eqb, le-leb, lt-leb, le-ltb}
+use Rattle.std.proofs.lemmas.Bool.{false_from_ne_true}
 use Rattle.lexical.specs.Lists.{same, any, find}
 use Rattle.lexical.specs.Symbols.{Name}
 use Rattle.lexical.proofs.WordLaws.{same_refl, same_true}
@@ -66,22 +67,16 @@ module _ (xs : List Letters) (i : ℕ) (g : Given) (gs : List Given) (e : given_
 
   -- no element has the title of its set
   not-title : (y : Name) → in_use (elements g) y ≡ true → same_name (plain g.title) y ≡ false
-  not-title y h = on (same_name (plain g.title) y) refl
-    where
-      on : (b : Bool) → same_name (plain g.title) y ≡ b → b ≡ false
-      on true k = no-yes (sym (elements-new (g.title ∷ xs) (i + 2) (elements g) (given-new xs i g gs e).elements_are y (use-here g.title xs y k)) ∙ h)
-      on false k = refl
+  not-title y h =
+      false_from_ne_true (same_name (plain g.title) y)
+      (λ k. no-yes (sym (elements-new (g.title ∷ xs) (i + 2) (elements g) (given-new xs i g gs e).elements_are y (use-here g.title xs y k)) ∙ h))
 
   -- another set has another title
   titles-apart : (h : Letters) → titled gs h ≡ true → same g.title h ≡ false
-  titles-apart h t = on (same g.title h) refl
-    where
-      on : (b : Bool) → same g.title h ≡ b → b ≡ false
-      on true k =
-          let f = titled-finds gs h t in
-          no-some (behind-new (plain g.title) (title-use g xs (plain g.title) (name-refl (plain g.title)))).no_title
-          (ap (λ (l : Letters). given_of gs (plain l)) (same_true g.title h k) ∙ f.finds)
-      on false k = refl
+  titles-apart h t =
+      false_from_ne_true (same g.title h)
+      (λ k. no-some (behind-new (plain g.title) (title-use g xs (plain g.title) (name-refl (plain g.title)))).no_title
+      (ap (λ (l : Letters). given_of gs (plain l)) (same_true g.title h k) ∙ (titled-finds gs h t).finds))
 
   titled-there : (h : Letters) → titled gs h ≡ true → titled (g ∷ gs) h ≡ true
   titled-there h t = any-there (λ (k : Given). same k.title h) g gs (titles-apart h t) ∙ t
@@ -126,6 +121,10 @@ abbrev is_some : Option Given → Bool
 is_some none = false
 is_some (some g) = true
 
+true-either : (c : Bool) → cond c true true ≡ true
+true-either true = refl
+true-either false = refl
+
 pub given-names-use : (gs : List Given) (y : Name) → in_use (given_names gs) y ≡ cond (is_some (element_of gs y)) true (is_some (given_of gs y))
 unfolding given_names any element_of given_of find
 given-names-use [] y = refl
@@ -140,11 +139,7 @@ given-names-use (g ∷ gs) y = on (same_name (plain g.title) y) refl (in_use (el
         ∙ sym (ap (λ (o : Option Given). cond (is_some o) true (is_some (given_of (g ∷ gs) y))) (element-here g gs y q))
     on true p false q h k =
         any_here (λ (x : Letters). same_name (plain x) y) g.title (elements g ++ given_names gs) p
-        ∙ sym (ap (λ (o : Option Given). cond (is_some (element_of (g ∷ gs) y)) true (is_some o)) (title-here g gs y p) ∙ same-arms (is_some (element_of (g ∷ gs) y)))
-      where
-        same-arms : (c : Bool) → cond c true true ≡ true
-        same-arms true = refl
-        same-arms false = refl
+        ∙ sym (ap (λ (o : Option Given). cond (is_some (element_of (g ∷ gs) y)) true (is_some o)) (title-here g gs y p) ∙ true-either (is_some (element_of (g ∷ gs) y)))
     on false p true q h k =
         any-there (λ (x : Letters). same_name (plain x) y) g.title (elements g ++ given_names gs) p ∙ h ∙ ap (λ (c : Bool). cond c true (in_use (given_names gs) y)) q
         ∙ sym (ap (λ (o : Option Given). cond (is_some o) true (is_some (given_of (g ∷ gs) y))) (element-here g gs y q))
@@ -154,11 +149,7 @@ given-names-use (g ∷ gs) y = on (same_name (plain g.title) y) refl (in_use (el
 
 -- a title is in use
 pub title-taken : (gs : List Given) (l : Letters) (g : Given) → given_of gs (plain l) ≡ some g → in_use (given_names gs) (plain l) ≡ true
-title-taken gs l g e = given-names-use gs (plain l) ∙ ap (λ (o : Option Given). cond (is_some (element_of gs (plain l))) true (is_some o)) e ∙ on (is_some (element_of gs (plain l)))
-  where
-    on : (b : Bool) → cond b true true ≡ true
-    on true = refl
-    on false = refl
+title-taken gs l g e = given-names-use gs (plain l) ∙ ap (λ (o : Option Given). cond (is_some (element_of gs (plain l))) true (is_some o)) e ∙ true-either (is_some (element_of gs (plain l)))
 
 -- the type of a name where no variables are in reach
 abbrev pub element_type : List Given → Name → Option Ty

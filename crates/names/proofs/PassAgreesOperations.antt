@@ -17,8 +17,8 @@ use Rattle.declared_names.specs.StaticRulesScope as scopes
 use Rattle.declared_names.specs.StaticRulesScope.{is_taken, variables}
 use Rattle.declared_names.specs.StaticRulesNames.{new_name, parameter_faults, judge_pred}
 use Rattle.type_rules.specs.TypesByNumber.{Names, Sizes, entry, key, unless_key, is_free, least_key}
-use Rattle.declared_names.specs.NamesByNumber.{parameters_of, title_named, operation_named, operation_key}
-use Rattle.names.proofs.ReachTables.{Numbered, PredIn}
+use Rattle.declared_names.specs.NamesByNumber.{parameters_of, title_named, parameters_shown, reaching, leaving, operation_named, operation_key}
+use Rattle.names.proofs.ReachTables.{Numbered, PredIn, Shows}
 use Rattle.names.proofs.TypesAgreeLeast.{unless-least}
 use Rattle.names.proofs.TypesAgreeWidths.{wide_pred, pred-length, pred-width}
 use Rattle.names.proofs.TypesAgree.{judged-pred}
@@ -116,6 +116,10 @@ texts-within gs av cv us i (o ∷ os) =
     within-append (wider _ _ (text-within gs av cv us i o) (omega arith) (omega arith))
     (wider _ _ (texts-within gs av cv (o.title ∷ us) (i + operation_length o) os) (omega arith) (omega arith))
 
+-- declared names stay in use beside another one
+pub more-used : (ds : List Declaration) (x : Letters) (us : List Letters) → AreUsed ds us → AreUsed ds (x ∷ us)
+more-used ds x us h y e = use-there x us y (h y e)
+
 -- ---- keys ----
 
 pub data OperationsIn (P : Letters → Type 0) : List Operation → Type 0 where
@@ -127,25 +131,45 @@ module _ (ρ : Numbering) (P : Letters → Type 0) (ν : Numbered ρ P) {gs : Li
     (a : Group ρ P ν p z d xs av) (c : Group ρ P ν p z d ys cv) where
   module _ (us : List Letters) (ua : AreUsed av (us)) (uc : AreUsed cv us) (t : TitlesIn gs us) {T : Names} (s : Base ρ P gs T us) (i : ℕ) (o : Operation) (po : P o.title)
       (tp : TypedIn P (parameters_of o.parameters)) where
-    titled-base : new_name us o.title (suc i) ≡ [] → Base ρ P gs (title_named o T ρ) (o.title ∷ us)
-    titled-base e = title-named ρ P ν p z d us s o.title po (new_unused us o.title (suc i) e)
+    module _ (e : new_name us o.title (suc i) ≡ []) where
+      titled-base : Base ρ P gs (title_named o T ρ) (o.title ∷ us)
+      titled-base = title-named ρ P ν p z d us s o.title po (new_unused us o.title (suc i) e)
 
-    params-clear : Base ρ P gs (title_named o T ρ) (o.title ∷ us) → parameter_faults gs [] (i + 2) o.parameters ≡ [] → Clear P gs (in_use (o.title ∷ us)) (parameters_of o.parameters)
-    params-clear w e =
-        clear gs tp (in_use (o.title ∷ us)) (λ y py h. (unused ρ P ν gs d.few w y py h).0) (i + 2) (sym (parameters-are gs av cv us i o) ∙ e)
+      module _ (f : parameter_faults gs [] (i + 2) o.parameters ≡ []) where
+        params-clear : Clear P gs (in_use (o.title ∷ us)) (parameters_of o.parameters)
+        params-clear =
+            clear gs tp (in_use (o.title ∷ us)) (λ y py h. (unused ρ P ν gs d.few titled-base y py h).0) (i + 2) (sym (parameters-are gs av cv us i o) ∙ f)
 
-    more-used : (ds : List Declaration) → AreUsed ds us → AreUsed ds (o.title ∷ us)
-    more-used ds h y e = use-there o.title us y (h y e)
+        pub operation-named : Base ρ P gs (operation_named o av cv T ρ) (o.title ∷ us)
+        unfolding operation_named
+        operation-named =
+            let w = titled-base in let k = params-clear in
+            parameters-hidden ρ P ν p z d (o.title ∷ us) w o.parameters k
+            (leaving-sees ρ P ν p z d (o.title ∷ us) w o.parameters k c (more-used cv o.title us uc)
+            (reaching-sees ρ P ν p z d (o.title ∷ us) w o.parameters k c (more-used cv o.title us uc)
+            (leaving-sees ρ P ν p z d (o.title ∷ us) w o.parameters k a (more-used av o.title us ua)
+            (reaching-sees ρ P ν p z d (o.title ∷ us) w o.parameters k a (more-used av o.title us ua) (parameters-shown ρ P ν p z d (o.title ∷ us) w o.parameters k)))))
 
-    pub operation-named : new_name us o.title (suc i) ≡ [] → parameter_faults gs [] (i + 2) o.parameters ≡ [] → Base ρ P gs (operation_named o av cv T ρ) (o.title ∷ us)
-    unfolding operation_named
-    operation-named e f =
-        let w = titled-base e in let k = params-clear w f in
-        parameters-hidden ρ P ν p z d (o.title ∷ us) w o.parameters k
-        (leaving-sees ρ P ν p z d (o.title ∷ us) w o.parameters k c (more-used cv uc)
-        (reaching-sees ρ P ν p z d (o.title ∷ us) w o.parameters k c (more-used cv uc)
-        (leaving-sees ρ P ν p z d (o.title ∷ us) w o.parameters k a (more-used av ua)
-        (reaching-sees ρ P ν p z d (o.title ∷ us) w o.parameters k a (more-used av ua) (parameters-shown ρ P ν p z d (o.title ∷ us) w o.parameters k)))))
+        -- the names in reach of its two predicates
+        pub abstract-shows : Shows ρ P (scope gs (o.title ∷ us) (reach_in gs av o.parameters)) (reaching av (parameters_shown o T ρ) ρ) z
+        abstract-shows =
+            let w = titled-base in let k = params-clear in
+            shows ρ P ν p z d
+            (reaching-sees ρ P ν p z d (o.title ∷ us) w o.parameters k a (more-used av o.title us ua) (parameters-shown ρ P ν p z d (o.title ∷ us) w o.parameters k))
+            (o.title ∷ us) (reach_in gs av o.parameters) (titles-more gs (o.title ∷ []) us t)
+            (reaching-uses ρ P ν p z d (o.title ∷ us) w o.parameters k a (more-used av o.title us ua))
+            (λ y. operation-reach gs av o.parameters k.variables k.carried y (element_type gs y))
+
+        pub concrete-shows : Shows ρ P (scope gs (o.title ∷ us) (reach_in gs cv o.parameters)) (reaching cv (leaving av (reaching av (parameters_shown o T ρ) ρ) ρ) ρ) z
+        concrete-shows =
+            let w = titled-base in let k = params-clear in
+            shows ρ P ν p z d
+            (reaching-sees ρ P ν p z d (o.title ∷ us) w o.parameters k c (more-used cv o.title us uc)
+            (leaving-sees ρ P ν p z d (o.title ∷ us) w o.parameters k a (more-used av o.title us ua)
+            (reaching-sees ρ P ν p z d (o.title ∷ us) w o.parameters k a (more-used av o.title us ua) (parameters-shown ρ P ν p z d (o.title ∷ us) w o.parameters k))))
+            (o.title ∷ us) (reach_in gs cv o.parameters) (titles-more gs (o.title ∷ []) us t)
+            (reaching-uses ρ P ν p z d (o.title ∷ us) w o.parameters k c (more-used cv o.title us uc))
+            (λ y. operation-reach gs cv o.parameters k.variables k.carried y (element_type gs y))
 
     title-least : unless_key (is_free (entry T (number_of_name ρ o.title no_ending))) (key (i + 1) 8) ≡ least_key (new_name us o.title (suc i))
     unfolding new_name number_of
@@ -159,20 +183,8 @@ module _ (ρ : Numbering) (P : Letters → Type 0) (ν : Numbered ρ P) {gs : Li
     operation-least pa pc =
         let at = abstractly-at i o in let l = operation-length o in let wd = pred-width o.abstractly in
         behind _ _ (title-within gs av cv us i o) (behind-title gs av cv us i o) (omega arith) title-least
-        (λ e. let w = titled-base e in
-        behind _ _ (parameters-within gs av cv us i o) (predicates-within gs av cv us i o) (omega arith)
-        (declared-least ρ P ν gs z d tp w (i + 2) ∙ ap least_key (sym (parameters-are gs av cv us i o)))
-        (λ f. let k = params-clear w f in
-        let sa = reaching-sees ρ P ν p z d (o.title ∷ us) w o.parameters k a (more-used av ua) (parameters-shown ρ P ν p z d (o.title ∷ us) w o.parameters k) in
-        behind _ _ (abstract-within gs av cv us i o) (concrete-within gs av cv us i o) (omega arith)
-        (judged-pred ρ P ν o.abstractly (scope gs (o.title ∷ us) (reach_in gs av o.parameters)) _ z
-        (shows ρ P ν p z d sa (o.title ∷ us) (reach_in gs av o.parameters) (titles-more gs (o.title ∷ []) us t)
-        (reaching-uses ρ P ν p z d (o.title ∷ us) w o.parameters k a (more-used av ua))
-        (λ y. operation-reach gs av o.parameters k.variables k.carried y (element_type gs y))) pa (abstractly_at i o)).0
-        (λ g. (judged-pred ρ P ν o.concretely (scope gs (o.title ∷ us) (reach_in gs cv o.parameters)) _ z
-        (shows ρ P ν p z d
-        (reaching-sees ρ P ν p z d (o.title ∷ us) w o.parameters k c (more-used cv uc)
-        (leaving-sees ρ P ν p z d (o.title ∷ us) w o.parameters k a (more-used av ua) sa))
-        (o.title ∷ us) (reach_in gs cv o.parameters) (titles-more gs (o.title ∷ []) us t)
-        (reaching-uses ρ P ν p z d (o.title ∷ us) w o.parameters k c (more-used cv uc))
-        (λ y. operation-reach gs cv o.parameters k.variables k.carried y (element_type gs y))) pc (suc (abstractly_at i o) + pred_width o.abstractly)).0)))
+        (λ e. behind _ _ (parameters-within gs av cv us i o) (predicates-within gs av cv us i o) (omega arith)
+        (declared-least ρ P ν gs z d tp (titled-base e) (i + 2) ∙ ap least_key (sym (parameters-are gs av cv us i o)))
+        (λ f. behind _ _ (abstract-within gs av cv us i o) (concrete-within gs av cv us i o) (omega arith)
+        (judged-pred ρ P ν o.abstractly (scope gs (o.title ∷ us) (reach_in gs av o.parameters)) _ z (abstract-shows e f) pa (abstractly_at i o)).0
+        (λ g. (judged-pred ρ P ν o.concretely (scope gs (o.title ∷ us) (reach_in gs cv o.parameters)) _ z (concrete-shows e f) pc (suc (abstractly_at i o) + pred_width o.abstractly)).0)))

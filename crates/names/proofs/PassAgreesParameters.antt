@@ -26,7 +26,7 @@ use Rattle.names.proofs.PassAgreesTables.{same-name}
 use Rattle.names.proofs.PassAgreesDeclared.{use_of, typed_faults, typed_width, Carried, no_carried, one_carried, Fresh, no_fresh, one_fresh, found, has_typed}
 use Rattle.names.proofs.PassAgreesUse.{in_use}
 use Rattle.declared_names.proofs.StaticRulesFoundCarriers.{variables-one, variables-skip}
-use Rattle.lexical.proofs.BooleanTests.{not-true}
+use Rattle.std.proofs.lemmas.Bool.{false_from_ne_true}
 
 abbrev pub name_of : Letters → Ending → Name
 name_of l e = record { letters = l; ending = e }
@@ -142,7 +142,7 @@ parameters-typed gs xs i (y ∷ ys) u h =
     on n false = h n
 
 pub parameter-unused : (xs : List Letters) (y : Parameter) → in_use xs (parameter_name y) ≡ false
-parameter-unused xs y = not-true (in_use xs (parameter_name y)) (λ e. omega (arith, use-ending xs (parameter_name y) e, direction-ending y.direction))
+parameter-unused xs y = false_from_ne_true (in_use xs (parameter_name y)) (λ e. omega (arith, use-ending xs (parameter_name y) e, direction-ending y.direction))
 
 pub parameters-length : (m n : ℕ) (ps : List Parameter) (w : List Written) → length (write_parameters m n ps w) ≡ typed_width (parameters_of ps) + length w
 unfolding write_parameters typed_width parameters_of

@@ -1,5 +1,5 @@
 -- The names in reach of an operation's predicates: variables plain and primed, inputs and outputs; and the table once they are out of reach again.
-use mathlib.Core.Path.{◌≡◌, refl, ap, ap₂, ◌∙◌, sym, subst}
+use mathlib.Core.Path.{◌≡◌, refl, ap, ap₂, ◌∙◌, sym}
 use mathlib.Core.Bool.{Bool, true, false, cond}
 use mathlib.Core.List.{List, ◌∷◌, ◌++◌}
 use mathlib.Core.Option.{Option, none}
@@ -19,16 +19,16 @@ use Rattle.declared_names.specs.NamesByNumber.{Typed, variables_of, parameters_o
 use Rattle.names.proofs.ReachTables.{Numbered}
 use Rattle.names.proofs.TypesAgreeTypes.{no-yes}
 use Rattle.names.proofs.TypesAgreeScope.{any-there}
-use Rattle.names.proofs.PassAgreesTables.{Sees, Sits, same-name, name-refl, put, sees-same, unused}
+use Rattle.names.proofs.PassAgreesTables.{Sees, Sits, name-refl, put, sees-same, unused}
 use Rattle.names.proofs.PassAgreesTypes.{Sized}
 use Rattle.names.proofs.PassAgreesDeclared.{Carried, no_carried, one_carried, fresh-none, Clear, found, or_type, after-found, has_name, used-after, has_typed, carried-names, found_none, shown-sees, hidden-sees}
 use Rattle.names.proofs.PassAgreesUse.{in_use, use-here, cond-right}
 use Rattle.names.proofs.PassAgreesGivens.{GivensIn}
 use Rattle.names.proofs.PassAgreesNamed.{element_type, Base}
-use Rattle.names.proofs.PassAgreesScopes.{Group, group-none, group-shown, group-hidden, used-sits, free-sits}
+use Rattle.names.proofs.PassAgreesScopes.{first_letters, Group, group-none, group-shown, group-hidden, used-sits, free-sits}
 use Rattle.names.proofs.PassAgreesConditions.{AreUsed, use-same, found-append}
 use Rattle.names.proofs.PassAgreesParameters.{name_of, use-ending, variables-ending, parameters-ending, other_none, inputs-none, outputs_none, Primed, primed, shown-primed, hidden-primed, inputs-found, outputs-found}
-use Rattle.lexical.proofs.BooleanTests.{not-true}
+use Rattle.std.proofs.lemmas.Bool.{false_from_ne_true}
 
 -- ---- the definitions' order of the lists ----
 
@@ -47,7 +47,7 @@ module _ (t : Option Ty) (a b v c d : Option Variable) where
 
 module _ (gs : List Given) (ds : List Declaration) (ps : List Parameter) {P : Letters → Type 0} (vs : List Variable) (k : Carried P gs (parameters_of ps) vs) where
   parameters-none : (y : Name) → ending_code y.ending < 2 → found vs y ≡ none
-  parameters-none y h = found_none vs y (sym (carried-names k y) ∙ not-true (has_typed (parameters_of ps) y) (λ e. omega (arith, parameters-ending ps y e)))
+  parameters-none y h = found_none vs y (sym (carried-names k y) ∙ false_from_ne_true (has_typed (parameters_of ps) y) (λ e. omega (arith, parameters-ending ps y e)))
 
   at-ending : (l : Letters) (t : Option Ty) (e : Ending)
       → or_type (found (variables gs prime ds) (name_of l e)) (or_type (found (variables gs no_ending ds) (name_of l e)) (or_type (found vs (name_of l e)) t))
@@ -87,11 +87,7 @@ module _ (gs : List Given) (ds : List Declaration) (ps : List Parameter) {P : Le
 carried-letters : {P : Letters → Type 0} {gs : List Given} {xs : List Typed} {vs : List Variable} → Carried P gs xs vs → (y : Name) → has_typed xs y ≡ true → P y.letters
 unfolding any
 carried-letters no_carried y e = no-yes e
-carried-letters {P} (one_carried {x = x} {xs = xs} c i p q e f g h) y k = on (same_name x.called y) refl k (λ m. carried-letters h y m)
-  where
-    on : (b : Bool) → same_name x.called y ≡ b → ◌≡◌ {A = Bool} (elim b [ true ↦ true | false ↦ has_typed xs y ]) true → (has_typed xs y ≡ true → P y.letters) → P y.letters
-    on true n k r = subst (λ (m : Name). P m.letters) (same-name x.called y n) p
-    on false n k r = r k
+carried-letters {P} (one_carried {x = x} {xs = xs} c i p q e f g h) y k = first_letters P x xs p y (λ m. carried-letters h y m) k
 
 module _ (ρ : Numbering) (P : Letters → Type 0) (ν : Numbered ρ P) {gs : List Given} (p : GivensIn P gs) (z : Sizes) (d : Sized gs z) where
   -- the title of an operation comes into use
@@ -108,7 +104,7 @@ module _ (ρ : Numbering) (P : Letters → Type 0) (ν : Numbered ρ P) {gs : Li
 
     ended-unused : (y : Name) → P y.letters → 1 ≤ ending_code y.ending → (in_use us y ≡ false) × (given_of gs y ≡ none) × (element_type gs y ≡ none)
     ended-unused y py h =
-        let e = not-true (in_use us y) (λ k. omega (arith, use-ending us y k)) in
+        let e = false_from_ne_true (in_use us y) (λ k. omega (arith, use-ending us y k)) in
         let w = unused ρ P ν gs d.few s y py e in
         (e, w.0, w.1)
 
@@ -149,9 +145,9 @@ module _ (ρ : Numbering) (P : Letters → Type 0) (ν : Numbered ρ P) {gs : Li
           → cond (has_name (variables gs prime ds) (plain l)) true (cond (has_typed (variables_of no_ending ds) (plain l)) true (cond (has_name c.variables (plain l)) true (in_use us (plain l))))
           ≡ in_use us (plain l)
       reaching-uses l =
-          let m = prime-none (plain l) (not-true (has_typed (variables_of prime ds) (plain l)) (λ h. omega (arith, variables-ending prime ds (plain l) h))) in
+          let m = prime-none (plain l) (false_from_ne_true (has_typed (variables_of prime ds) (plain l)) (λ h. omega (arith, variables-ending prime ds (plain l) h))) in
           let n : has_name c.variables (plain l) ≡ false
-          = sym (carried-names c.carried (plain l)) ∙ not-true (has_typed (parameters_of ps) (plain l)) (λ h. omega (arith, parameters-ending ps (plain l) h)) in
+          = sym (carried-names c.carried (plain l)) ∙ false_from_ne_true (has_typed (parameters_of ps) (plain l)) (λ h. omega (arith, parameters-ending ps (plain l) h)) in
           ap₂ (λ (x y : Bool). cond x true (cond (has_typed (variables_of no_ending ds) (plain l)) true (cond y true (in_use us (plain l))))) m n
           ∙ use-same (has_typed (variables_of no_ending ds) (plain l)) (in_use us (plain l)) (used (plain l))
 
@@ -159,7 +155,7 @@ module _ (ρ : Numbering) (P : Letters → Type 0) (ν : Numbered ρ P) {gs : Li
           → (cond (has_name (variables gs prime ds) y) true (cond (has_name c.variables y) true (in_use us y)) ≡ true)
           × (or_type (found (variables gs prime ds) y) (or_type (found c.variables y) (element_type gs y)) ≡ none)
       plain-left y e =
-          let n = prime-none y (not-true (has_typed (variables_of prime ds) y) (λ h. omega (arith, variables-ending prime ds y h, variables-ending no_ending ds y e))) in
+          let n = prime-none y (false_from_ne_true (has_typed (variables_of prime ds) y) (λ h. omega (arith, variables-ending prime ds y h, variables-ending no_ending ds y e))) in
           let f = found_none (variables gs prime ds) y n in
           let v = fresh-none c.fresh y (used y e) in
           let w = (g.away y e).1 in (
@@ -172,7 +168,7 @@ module _ (ρ : Numbering) (P : Letters → Type 0) (ν : Numbered ρ P) {gs : Li
       prime-left y e =
           let k = variables-ending prime ds y e in
           let h = ended-unused y (carried-letters primes.carried y e) (omega arith) in
-          let n : has_name c.variables y ≡ false = sym (carried-names c.carried y) ∙ not-true (has_typed (parameters_of ps) y) (λ m. omega (arith, parameters-ending ps y m)) in
+          let n : has_name c.variables y ≡ false = sym (carried-names c.carried y) ∙ false_from_ne_true (has_typed (parameters_of ps) y) (λ m. omega (arith, parameters-ending ps y m)) in
           free-sits gs (λ (y : Name). cond (has_name c.variables y) true (in_use us y)) (λ (y : Name). or_type (found c.variables y) (element_type gs y)) y
           (ap₂ (λ (a b : Bool). cond a true b) n h.0) (ap₂ (λ (o : Option Variable) (t : Option Ty). or_type o t) (found_none c.variables y n) h.2) h.1
 

@@ -1,11 +1,12 @@
 -- The variables of a state in reach and out of reach: what the table says, and the scope that it shows.
 use mathlib.Core.Path.{◌≡◌, refl, ap, ◌∙◌, sym, subst}
 use mathlib.Core.Bool.{Bool, true, false, not, cond}
-use mathlib.Core.List.{List, [], ◌++◌, map}
+use mathlib.Core.List.{List, [], ◌∷◌, ◌++◌, map}
 use mathlib.Core.Option.{Option, none}
 use Prim.Native.Nat.{ℕ, zero, suc, ◌+◌, ◌<◌}
 use native.Mathlib.Omega.{arith}
 use lib.ListN.{length, get_or}
+use Rattle.std.proofs.lemmas.Bool.{false_from_ne_true}
 use Rattle.lexical.specs.Lists.{same, any}
 use Rattle.lexical.specs.Symbols.{Name, no_ending}
 use Rattle.form.specs.Tree.{Letters, Given, Declaration, declarations, State}
@@ -41,25 +42,28 @@ fresh-unused {u = u} (one_fresh {v = v} {vs = vs} f h) y e = on (same_name v.cal
     on true k e l = ap u (sym (same-name v.called y k)) ∙ f
     on false k e l = sym (ap (λ (b : Bool). cond b true (u y)) k) ∙ l e
 
+-- what holds of the letters of the name found first, or of those of a later one
+pub first_letters : (P : Letters → Type 0) (x : Typed) (xs : List Typed) → P x.called.letters → (y : Name) → (has_typed xs y ≡ true → P y.letters) → has_typed (x ∷ xs) y ≡ true → P y.letters
+unfolding any
+first_letters P x xs p y l e = on (same_name x.called y) refl e
+  where
+    on : (b : Bool) → same_name x.called y ≡ b → ◌≡◌ {A = Bool} (elim b [ true ↦ true | false ↦ has_typed xs y ]) true → P y.letters
+    on true k e = subst (λ (n : Name). P n.letters) (same-name x.called y k) p
+    on false k e = l e
+
 typed-letters : {P : Letters → Type 0} {xs : List Typed} → TypedIn P xs → (y : Name) → has_typed xs y ≡ true → P y.letters
 unfolding any
 typed-letters no_typed y e = no-yes e
-typed-letters {P} (one_typed {x = x} {xs = xs} p q h) y e = on (same_name x.called y) refl e (typed-letters h y)
-  where
-    on : (b : Bool) → same_name x.called y ≡ b → ◌≡◌ {A = Bool} (elim b [ true ↦ true | false ↦ has_typed xs y ]) true → (has_typed xs y ≡ true → P y.letters) → P y.letters
-    on true k e l = subst (λ (n : Name). P n.letters) (same-name x.called y k) p
-    on false k e l = l e
+typed-letters {P} (one_typed {x = x} {xs = xs} p q h) y e = first_letters P x xs p y (typed-letters h y) e
 
 -- titles are in use
 abbrev pub TitlesIn : List Given → List Letters → Type 0
 TitlesIn gs xs = (l : Letters) → is_taken xs l ≡ false → titled gs l ≡ false
 
 pub titles-given : (gs : List Given) → TitlesIn gs (given_names gs)
-titles-given gs l e = on (titled gs l) refl
-  where
-    on : (b : Bool) → titled gs l ≡ b → b ≡ false
-    on true k = no-yes (sym (sym (taken_is (given_names gs) l) ∙ e) ∙ title-taken gs l (titled-finds gs l k).given (titled-finds gs l k).finds)
-    on false k = refl
+titles-given gs l e =
+    false_from_ne_true (titled gs l)
+    (λ k. no-yes (sym (sym (taken_is (given_names gs) l) ∙ e) ∙ title-taken gs l (titled-finds gs l k).given (titled-finds gs l k).finds))
 
 right-false : (a b : Bool) → cond a true b ≡ false → b ≡ false
 right-false true b e = no-yes (sym e)
@@ -157,10 +161,15 @@ module _ (ρ : Numbering) (P : Letters → Type 0) (ν : Numbered ρ P) {gs : Li
     names_in : (y : Name) → has_typed (variables_of no_ending (declarations st)) y ≡ true → in_use (state_names st ++ xs) y ≡ true
     names_in y e = use-left (state_names st) xs y (sym (typed-use (declarations st) y) ∙ e)
 
-    pub state-shown : Group xs (declarations st)
+    state-shown : Group xs (declarations st)
         → Sees ρ P gs (shown (variables_of no_ending (declarations st)) 0 T ρ) (in_use (state_names st ++ xs))
         (λ (y : Name). or_type (found (variables gs no_ending (declarations st)) y) (element_type gs y))
     state-shown g = group-shown g s (in_use (state_names st ++ xs)) names-join
+
+    pub state-shows : TitlesIn gs xs → Group xs (declarations st)
+        → Shows ρ P (scope gs (state_names st ++ xs) (variables gs no_ending (declarations st))) (shown (variables_of no_ending (declarations st)) 0 T ρ) z
+    state-shows t g =
+        shows (state-shown g) (state_names st ++ xs) (variables gs no_ending (declarations st)) (titles-more gs (state_names st) xs t) (λ l. refl) (λ y. refl)
 
     pub state-named : Group xs (declarations st) → Base ρ P gs (state_named st T ρ) (state_names st ++ xs)
     unfolding state_named
@@ -180,5 +189,4 @@ module _ (ρ : Numbering) (P : Letters → Type 0) (ν : Numbered ρ P) {gs : Li
         (omega (arith, declarations-length 0 (declarations st) []))
         (declared-least ρ P ν gs z d q s (suc i) ∙ ap least_key (sym e))
         (λ n. (judged-pred ρ P ν st.predicate (scope gs (state_names st ++ xs) (variables gs no_ending (declarations st))) _ z
-        (shows (state-shown (group s (declarations st) q (suc i) n)) (state_names st ++ xs) (variables gs no_ending (declarations st)) (titles-more gs (state_names st) xs t)
-        (λ l. refl) (λ y. refl)) r (predicate_at i st)).0)
+        (state-shows t (group s (declarations st) q (suc i) n)) r (predicate_at i st)).0)

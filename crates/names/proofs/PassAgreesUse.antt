@@ -2,10 +2,10 @@
 use mathlib.Core.Path.{◌≡◌, refl, ap, ap₂, ◌∙◌, sym}
 use mathlib.Core.Bool.{Bool, true, false, not, cond}
 use mathlib.Core.List.{List, [], ◌∷◌, ◌++◌}
-use mathlib.Core.Option.{Option, none, some}
+use mathlib.Core.Option.{none}
 use Prim.Native.Nat.{ℕ, suc, ◌+◌}
-use native.Mathlib.Omega.{arith}
 use borrow.Author.Tests.{not-true}
+use Rattle.std.proofs.lemmas.Bool.{false_from_ne_true}
 use Rattle.lexical.specs.Lists.{same, any, find}
 use Rattle.lexical.specs.Symbols.{Name}
 use Rattle.refusals.specs.Refusals.{fault, name_in_use}
@@ -15,7 +15,6 @@ use Rattle.form.specs.Headings.{given_length}
 use Rattle.declared_names.specs.StaticRulesCarriers.{same_name, plain, given_of}
 use Rattle.declared_names.specs.StaticRulesScope.{is_taken, element_of, given_names}
 use Rattle.declared_names.specs.StaticRulesNames.{new_name, element_faults, given_faults}
-use Rattle.names.proofs.ReachTables.{titled}
 use Rattle.names.proofs.TypesAgreeTypes.{no-yes}
 use Rattle.names.proofs.TypesAgreeScope.{any_here, any-there, find-there}
 use Rattle.names.proofs.PassAgreesTables.{same-name}
@@ -76,11 +75,7 @@ unfolding new_name
 new_unused xs x i e = sym (taken_is xs x) ∙ not-true (is_taken xs x) (unless-nil (not (is_taken xs x)) (fault i name_in_use) e)
 
 new_other : (xs : List Letters) (x : Letters) (i : ℕ) → new_name xs x i ≡ [] → (y : Name) → in_use xs y ≡ true → same_name (plain x) y ≡ false
-new_other xs x i e y h = on (same_name (plain x) y) refl
-  where
-    on : (b : Bool) → same_name (plain x) y ≡ b → b ≡ false
-    on true k = no-yes (sym (new_unused xs x i e) ∙ ap (in_use xs) (same-name (plain x) y k) ∙ h)
-    on false k = refl
+new_other xs x i e y h = false_from_ne_true (same_name (plain x) y) (λ k. no-yes (sym (new_unused xs x i e) ∙ ap (in_use xs) (same-name (plain x) y k) ∙ h))
 
 pub elements-new : (xs : List Letters) (i : ℕ) (es : List Letters) → element_faults xs i es ≡ [] → (y : Name) → in_use xs y ≡ true → in_use es y ≡ false
 unfolding element_faults any
@@ -126,17 +121,3 @@ title-use g xs y e = use-here g.title _ y e
 pub element-use : (g : Given) (xs : List Letters) (y : Name) → in_use (elements g) y ≡ true → in_use (given_names (g ∷ []) ++ xs) y ≡ true
 unfolding given_names
 element-use g xs y e = use-left (g.title ∷ elements g ++ []) xs y (use-there g.title (elements g ++ []) y (use-left (elements g) [] y e))
-
--- a given set that is found has a title that there is
-pub find-titled : (f : Given → Bool) (gs : List Given) (h : Given) → find f gs ≡ some h → titled gs h.title ≡ true
-unfolding find any
-find-titled f [] h e = let z : ◌≡◌ {A = ℕ} 0 1 = cc in absurd (omega arith)
-find-titled f (g ∷ gs) h e = on (f g) e (find-titled f gs h)
-  where
-    on : (b : Bool) → ◌≡◌ {A = Option Given} (elim b [ true ↦ some g | false ↦ find f gs ]) (some h) → (find f gs ≡ some h → titled gs h.title ≡ true) → titled (g ∷ gs) h.title ≡ true
-    on true k r = let q : g ≡ h = cc in any_here (λ (k : Given). same k.title h.title) g gs (ap (λ (x : Given). same x.title h.title) q ∙ same_refl h.title)
-    on false k r = there (same g.title h.title) (r k)
-      where
-        there : (b : Bool) → titled gs h.title ≡ true → (elim b as (λ (c : Bool). Bool) [ true ↦ true | false ↦ titled gs h.title ]) ≡ true
-        there true q = refl
-        there false q = q

@@ -1,23 +1,23 @@
 -- The parts of a dossier by their nodes: where declarations and predicates end, and what the pass makes of states and of the three conditions.
 use mathlib.Core.Logic.{◌⊎◌, inl, inr}
-use mathlib.Core.Path.{◌≡◌, refl, ap, sym, ◌∙◌, subst}
-use mathlib.Core.List.{List, [], ◌∷◌, ◌++◌, append_assoc}
-use Prim.Native.Nat.{ℕ, zero, suc, ◌+◌, ◌-◌, ◌*◌, ◌/◌, ◌≤◌, ◌<◌, min}
-use native.Mathlib.Nat.{add-zero, zero-add}
+use mathlib.Core.Path.{◌≡◌, refl, ap, sym, ◌∙◌}
+use mathlib.Core.List.{List, [], ◌∷◌, ◌++◌}
+use Prim.Native.Nat.{ℕ, suc, ◌+◌, ◌-◌, ◌≤◌, ◌<◌, min}
+use native.Mathlib.Nat.{zero-add}
 use native.Mathlib.Omega.{arith}
 use Rattle.form.specs.Headings.{ainit_at, cinit_at, retrieve_at}
 use lib.ListN.{length, take, drop, get_or, length-drop, length-append}
-use lib.Seq.{get_or-drop, drop-drop, drop_at, take_at, take-length, take_all}
-use Rattle.std.specs.Prelude.{Option, None, Some, MatchOption, unwrap_or}
+use lib.Seq.{drop-drop, drop_at, take_at, take-length}
 use Rattle.lexical.specs.Symbols.{no_ending}
 use Rattle.form.specs.Tree.{Declaration, declarations, Parameter, Pred, State, Dossier}
 use Rattle.form.specs.Written.{ending_of}
 use Rattle.form.specs.Codes.{Numbering, node, pred_codes, type_width, declaration_codes, parameter_codes, condition_codes, state_codes}
-use Rattle.type_rules.specs.TypesByNumber.{Names, Sizes, fault_key, pred_key, inside_key, PredSeen}
-use Rattle.declared_names.specs.NamesByNumber.{Typed, typed_codes, variables_of, parameters_of, shown, hidden, declared_key, predicate_at, state_key, state_named, conditions_key, conditions_named}
+use Rattle.type_rules.specs.TypesByNumber.{Names, Sizes, fault_key, pred_key, PredSeen}
+use Rattle.declared_names.specs.NamesByNumber.{Typed, typed_codes, variables_of, parameters_of, shown, hidden, predicate_at, state_key, state_named, conditions_key, conditions_named}
 use Rattle.declared_names.specs.PassPromises.{typed_code, DeclaredEnd, PredicateEnd, ConditionSeen, DeclaredSeen, ShownSeen, HiddenSeen, StateSeen, Variables, three_codes, ConditionsSeen}
 use Rattle.type_rules.specs.declared.Seen.{Seen}
-use Rattle.declared_names.proofs.DeclarationNodes.{node-a, typed-eight, inside-none, inside-some}
+use Rattle.declared_names.proofs.DeclarationNodes.{node-a}
+use Rattle.type_rules.proofs.TypeNumbers.{inside-none, inside-some}
 
 -- the nodes of variables and of parameters are those of their names with their types
 pub variables-codes : (i : ℕ) (ds : List Declaration) (ρ : Numbering) → typed_codes i (variables_of no_ending ds) ρ ≡ declaration_codes i ds ρ
@@ -31,94 +31,6 @@ parameters-codes i [] ρ = refl
 parameters-codes i (x ∷ xs) ρ =
     ap (λ (l : List ℕ). typed_code i (record { called = record { letters = x.declaration.declared; ending = ending_of x.direction }; type = x.declaration.type }) ρ ++ l)
     (parameters-codes (i + 3 + type_width x.declaration.type) xs ρ)
-
--- a walk to the end of declarations
-pub record Ahead (code : List ℕ) (at : ℕ) (ρ : Numbering) (rest : List ℕ) (n : ℕ) : Type 0 where
-  pub left : List Typed
-  pub place : ℕ
-  pub here : drop at code ≡ typed_codes place left ρ ++ rest
-  pub count : at + length (typed_codes place left ρ) ≡ n
-
-abbrev pub DeclaredOn : (code : List ℕ) (at : ℕ) → Type 0
-DeclaredOn code at = (xs : List Typed) (i : ℕ) (ρ : Numbering) (rest : List ℕ) → code ≡ typed_codes i xs ρ ++ rest → (get_or rest 3 0 ≡ 6 → ⊥) → Ahead code at ρ rest (length (typed_codes i xs ρ))
-
-pub ahead-start : (code : List ℕ) → DeclaredOn code 0
-ahead-start code xs i ρ rest e other = record { left = xs; place = i; here = e; count = zero-add (length (typed_codes i xs ρ)) }
-
-module _ (code : List ℕ) (at : ℕ) (ρ : Numbering) (rest : List ℕ) (n : ℕ) where
-  first-shape : (x : Typed) (xs : List Typed) (j : ℕ) → drop at code ≡ (typed_code j x ρ ++ typed_codes (j + 3 + type_width x.type) xs ρ) ++ rest → get_or code (at + 3) 0 ≡ 6
-  first-shape x xs j e = sym (get_or-drop at code 3 0) ∙ ap (λ (l : List ℕ). get_or l 3 0) e
-
-  rest-shape : drop at code ≡ rest → get_or code (at + 3) 0 ≡ get_or rest 3 0
-  rest-shape e = sym (get_or-drop at code 3 0) ∙ ap (λ (l : List ℕ). get_or l 3 0) e
-
-  ahead_step : get_or code (at + 3) 0 ≡ 6 → (get_or rest 3 0 ≡ 6 → ⊥) → (xs : List Typed) (j : ℕ) → drop at code ≡ typed_codes j xs ρ ++ rest → at + length (typed_codes j xs ρ) ≡ n
-      → Ahead code (at + 8) ρ rest n
-  unfolding typed_codes
-  ahead_step s other [] j e c = elim (other (sym (rest-shape e) ∙ s)) [ ]
-  ahead_step s other (x ∷ xs) j e c =
-      let eight = typed-eight x j ρ in
-      let more = length-append (typed_code j x ρ) (typed_codes (j + 3 + type_width x.type) xs ρ) in
-      record {
-        left = xs;
-        place = j + 3 + type_width x.type;
-        here =
-            sym (drop-drop 8 at code)
-            ∙ (ap (λ (l : List ℕ). drop 8 l) (e ∙ append_assoc (typed_code j x ρ) (typed_codes (j + 3 + type_width x.type) xs ρ) rest)
-            ∙ drop_at (typed_code j x ρ) (typed_codes (j + 3 + type_width x.type) xs ρ ++ rest) 8 eight);
-        count = omega arith;
-      }
-
-  ahead-stop : (get_or code (at + 3) 0 ≡ 6 → ⊥) → (xs : List Typed) (j : ℕ) → drop at code ≡ typed_codes j xs ρ ++ rest → at + length (typed_codes j xs ρ) ≡ n → at ≡ n
-  unfolding typed_codes
-  ahead-stop s [] j e c = sym (add-zero at) ∙ c
-  ahead-stop s (x ∷ xs) j e c = elim (s (first-shape x xs j e)) [ ]
-
-  ahead-end : length code < at + 8 → (xs : List Typed) (j : ℕ) → drop at code ≡ typed_codes j xs ρ ++ rest → at + length (typed_codes j xs ρ) ≡ n → at ≡ n
-  unfolding typed_codes
-  ahead-end s [] j e c = sym (add-zero at) ∙ c
-  ahead-end s (x ∷ xs) j e c =
-      let eight = typed-eight x j ρ in
-      let more = length-append (typed_code j x ρ) (typed_codes (j + 3 + type_width x.type) xs ρ) in
-      let all : length code - at ≡ length (typed_code j x ρ ++ typed_codes (j + 3 + type_width x.type) xs ρ) + length rest = sym (length-drop at code) ∙ (ap (λ (l : List ℕ). length l) e ∙ length-append (typed_code j x ρ ++ typed_codes (j + 3 + type_width x.type) xs ρ) rest) in
-      omega arith
-
-pub ahead-on : (code : List ℕ) (at : ℕ) → get_or code (at + 3) 0 ≡ 6 → DeclaredOn code at → DeclaredOn code (at + 8)
-ahead-on code at s w xs i ρ rest e other =
-    let r = w xs i ρ rest e other in ahead_step code at ρ rest (length (typed_codes i xs ρ)) s other r.left r.place r.here r.count
-
-pub ahead-stopped : (code : List ℕ) (at : ℕ) → at ≤ length code → (get_or code (at + 3) 0 ≡ 6 → ⊥) → DeclaredOn code at → DeclaredEnd code at
-ahead-stopped code at h s w =
-    record {
-      within = h;
-      right =
-          λ xs i ρ rest e other.
-          let r = w xs i ρ rest e other in ahead-stop code at ρ rest (length (typed_codes i xs ρ)) s r.left r.place r.here r.count;
-    }
-
-pub ahead-ended : (code : List ℕ) (at : ℕ) → at ≤ length code → length code < at + 8 → DeclaredOn code at → DeclaredEnd code at
-ahead-ended code at h s w =
-    record {
-      within = h;
-      right =
-          λ xs i ρ rest e other.
-          let r = w xs i ρ rest e other in ahead-end code at ρ rest (length (typed_codes i xs ρ)) s r.left r.place r.here r.count;
-    }
-
--- k declarations on
-pub ahead-to : (code : List ℕ) (k : ℕ) → ((j : ℕ) → j < k → get_or code (j * 8 + 3) 0 ≡ 6) → DeclaredOn code (k * 8)
-ahead-to code zero w = ahead-start code
-ahead-to code (suc k) w =
-    let next : k * 8 + 8 ≡ suc k * 8 = omega arith in
-    subst (DeclaredOn code) next (ahead-on code (k * 8) (w k (omega arith)) (ahead-to code k (λ j h. w j (omega arith))))
-
--- where the first is that is no declaration, or that there is none
-pub ahead-found : (code : List ℕ) (o : Option ℕ)
-    → MatchOption o ((j : ℕ) → 0 ≤ j → j < length code / 8 → get_or code (j * 8 + 3) 0 ≡ 6)
-    (λ k. (0 ≤ k) × (k < length code / 8) × (get_or code (k * 8 + 3) 0 ≡ 6 → ⊥) × ((j : ℕ) → 0 ≤ j → j < k → get_or code (j * 8 + 3) 0 ≡ 6))
-    → DeclaredEnd code (unwrap_or o (length code / 8) * 8)
-ahead-found code None w = let n = length code / 8 in ahead-ended code (n * 8) (omega arith) (omega arith) (ahead-to code n (λ j h. w j (omega arith) h))
-ahead-found code (Some k) w = let h = w.1 in ahead-stopped code (k * 8) (omega arith) w.2 (ahead-to code k (λ j l. w.3 j (omega arith) l))
 
 -- the node of a predicate has the length of what follows
 module _ (code : List ℕ) (at : ℕ) (p : Pred) (i : ℕ) (ρ : Numbering) (rest : List ℕ) (e : drop at code ≡ condition_codes i p ρ ++ rest) where
@@ -154,9 +66,11 @@ front code n a b e l = ap (λ (c : List ℕ). take n c) e ∙ take_at a b n (sym
 pub back : (code : List ℕ) (n : ℕ) (a b : List ℕ) → code ≡ a ++ b → n ≡ length a → drop n code ≡ b
 back code n a b e l = ap (λ (c : List ℕ). drop n c) e ∙ drop_at a b n (sym l)
 
--- a part from a place to the end
-pub part-tail : (l : List ℕ) (k : ℕ) → take (length l - k) (drop k l) ≡ drop k l
-part-tail l k = take_all (length l - k) (drop k l) (rw length-drop (omega arith))
+-- what stands before and behind the end of declarations
+pub declared-cut : (rest : List ℕ) (n : ℕ) → DeclaredEnd rest n → (xs : List Typed) (i : ℕ) (ρ : Numbering) (more : List ℕ) → rest ≡ typed_codes i xs ρ ++ more → (get_or more 3 0 ≡ 6 → ⊥)
+    → (take n rest ≡ typed_codes i xs ρ) × (drop n rest ≡ more)
+declared-cut rest n end xs i ρ more e other =
+    let l = end.right xs i ρ more e other in (front rest n (typed_codes i xs ρ) more e l, back rest n (typed_codes i xs ρ) more e l)
 
 -- what `get` says of the nodes behind a heading: there are too few, or these are they
 pub no-heading : {n : ℕ} → (n < 4) ⊎ (n < n) → n < 4
@@ -173,28 +87,25 @@ variables_in s = variables_of no_ending (declarations s)
 -- the two parts of a state: its variables, and its predicate
 module _ (code rest vs cs : List ℕ) (n : ℕ) (end : DeclaredEnd rest n) (rest-is : rest ≡ drop 4 code) (vs-is : vs ≡ take n rest) (cs-is : cs ≡ drop n rest) where
   module _ (s : State) (i : ℕ) (ρ : Numbering) (e : code ≡ state_codes i s ρ) where
-    state-rest : rest ≡ typed_codes (suc i) (variables_in s) ρ ++ condition_codes (predicate_at i s) s.predicate ρ
+    state-cut : (take n rest ≡ typed_codes (suc i) (variables_in s) ρ) × (drop n rest ≡ condition_codes (predicate_at i s) s.predicate ρ)
     unfolding state_codes
-    state-rest = rest-is ∙ (ap (λ (l : List ℕ). drop 4 l) e ∙ ap (λ (l : List ℕ). l ++ condition_codes (predicate_at i s) s.predicate ρ) (sym (variables-codes (suc i) (declarations s) ρ)))
-
-    state-length : n ≡ length (typed_codes (suc i) (variables_in s) ρ)
-    state-length = end.right (variables_in s) (suc i) ρ (condition_codes (predicate_at i s) s.predicate ρ) state-rest (no-declaration (predicate_at i s) s.predicate ρ)
+    state-cut =
+        declared-cut rest n end (variables_in s) (suc i) ρ (condition_codes (predicate_at i s) s.predicate ρ)
+        (rest-is ∙ (ap (λ (l : List ℕ). drop 4 l) e ∙ ap (λ (l : List ℕ). l ++ condition_codes (predicate_at i s) s.predicate ρ) (sym (variables-codes (suc i) (declarations s) ρ))))
+        (no-declaration (predicate_at i s) s.predicate ρ)
 
     pub state-front : vs ≡ typed_codes (suc i) (variables_in s) ρ
-    state-front = vs-is ∙ front rest n (typed_codes (suc i) (variables_in s) ρ) (condition_codes (predicate_at i s) s.predicate ρ) state-rest state-length
+    state-front = vs-is ∙ state-cut.0
 
     pub state-back : cs ≡ condition_codes (predicate_at i s) s.predicate ρ
-    state-back = cs-is ∙ back rest n (typed_codes (suc i) (variables_in s) ρ) (condition_codes (predicate_at i s) s.predicate ρ) state-rest state-length
+    state-back = cs-is ∙ state-cut.1
 
   module _ (T T₁ : Names) (z : Sizes) (f : ℕ) (declared : DeclaredSeen vs T T₁ z f) where
     pub state-faulty : (f ≡ 0 → ⊥) → (U : Names) → StateSeen code T U z f
     unfolding state_key
     state-faulty not U =
         record {
-          right =
-              λ s i ρ e.
-              let d = declared.right (variables_in s) (suc i) ρ (state-front s i ρ e) in
-              d ∙ sym (inside-some (declared_key (variables_in s) T ρ z (suc i)) (pred_key s.predicate (shown (variables_in s) 0 T ρ) ρ z (predicate_at i s)) (λ w. not (d ∙ w)));
+          right = λ s i ρ e. inside-some _ (declared.right (variables_in s) (suc i) ρ (state-front s i ρ e)) not;
           named = λ s i ρ e q. elim (not q) [ ];
         }
 
@@ -208,7 +119,7 @@ module _ (code rest vs cs : List ℕ) (n : ℕ) (end : DeclaredEnd rest n) (rest
               let t = declared.named (variables_in s) (suc i) ρ (state-front s i ρ e) q in
               seen.right s.predicate (predicate_at i s) ρ (state-back s i ρ e)
               ∙ (ap (λ (c : Names). pred_key s.predicate c ρ z (predicate_at i s)) t
-              ∙ sym (inside-none (declared_key (variables_in s) T ρ z (suc i)) (pred_key s.predicate (shown (variables_in s) 0 T ρ) ρ z (predicate_at i s)) (sym d ∙ q)));
+              ∙ inside-none d q);
           named =
               λ s i ρ e w.
               let t = declared.named (variables_in s) (suc i) ρ (state-front s i ρ e) q in
@@ -290,17 +201,11 @@ module _ (code A C fs : List ℕ) (p q : ℕ) (pe : PredicateEnd code 0 p) (qe :
   abbrev cinit_key : Dossier → Numbering → ℕ
   cinit_key d ρ = pred_key d.cinit (with_concrete d ρ) ρ z (cinit_at d + 2)
 
-  abbrev retrieve_key : Dossier → Numbering → ℕ
-  retrieve_key d ρ = pred_key d.retrieve (shown (first_of d) 0 (with_concrete d ρ) ρ) ρ z (retrieve_at d + 2)
-
   pub conditions-first : (f ≡ 0 → ⊥) → (U : Names) → ConditionsSeen code A C T U z f
   unfolding conditions_key
   conditions-first not U =
       record {
-        right =
-            λ d ρ e v.
-            let k = ainit-fault d ρ v e in
-            k ∙ sym (inside-some (pred_key d.ainit (shown (first_of d) 0 T ρ) ρ z (ainit_at d + 2)) (inside_key (cinit_key d ρ) (retrieve_key d ρ)) (λ w. not (k ∙ w)));
+        right = λ d ρ e v. inside-some _ (ainit-fault d ρ v e) not;
         named = λ d ρ e v w. elim (not w) [ ];
       }
 
@@ -322,12 +227,7 @@ module _ (code A C fs : List ℕ) (p q : ℕ) (pe : PredicateEnd code 0 p) (qe :
     unfolding conditions_key
     conditions-second not U =
         record {
-          right =
-              λ d ρ e v.
-              let k = cinit-fault d ρ v e in
-              k
-              ∙ (sym (inside-some (cinit_key d ρ) (retrieve_key d ρ) (λ w. not (k ∙ w)))
-              ∙ sym (inside-none (pred_key d.ainit (shown (first_of d) 0 T ρ) ρ z (ainit_at d + 2)) (inside_key (cinit_key d ρ) (retrieve_key d ρ)) (sym (ainit-fault d ρ v e) ∙ f-none)));
+          right = λ d ρ e v. inside-some _ (cinit-fault d ρ v e) not ∙ inside-none (ainit-fault d ρ v e) f-none;
           named = λ d ρ e v w. elim (not w) [ ];
         }
 
@@ -341,8 +241,7 @@ module _ (code A C fs : List ℕ) (p q : ℕ) (pe : PredicateEnd code 0 p) (qe :
               let t : T₆ ≡ shown (first_of d) 0 (with_concrete d ρ) ρ = three (first_of d) v.i ρ (abstract-variables d ρ v) ∙ ap (λ (t : Names). shown (first_of d) 0 t ρ) (seen₂.kept ∙ with-concrete d ρ v) in
               seen₃.right d.retrieve (retrieve_at d + 2) ρ (retrieve-part code fs bs cs p q pe qe fs-is bs-is cs-is d ρ e)
               ∙ (ap (λ (t : Names). pred_key d.retrieve t ρ z (retrieve_at d + 2)) t
-              ∙ (sym (inside-none (cinit_key d ρ) (retrieve_key d ρ) (sym (cinit-fault d ρ v e) ∙ g-none))
-              ∙ sym (inside-none (pred_key d.ainit (shown (first_of d) 0 T ρ) ρ z (ainit_at d + 2)) (inside_key (cinit_key d ρ) (retrieve_key d ρ)) (sym (ainit-fault d ρ v e) ∙ f-none))));
+              ∙ (inside-none (cinit-fault d ρ v e) g-none ∙ inside-none (ainit-fault d ρ v e) f-none));
           named =
               λ d ρ e v w.
               let t : T₆ ≡ shown (first_of d) 0 (with_concrete d ρ) ρ = three (first_of d) v.i ρ (abstract-variables d ρ v) ∙ ap (λ (t : Names). shown (first_of d) 0 t ρ) (seen₂.kept ∙ with-concrete d ρ v) in

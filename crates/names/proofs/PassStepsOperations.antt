@@ -13,8 +13,8 @@ use Rattle.form.specs.Codes.{Numbering, node, number_of_name, pred_width, abstra
 use Rattle.type_rules.specs.TypesByNumber.{Names, Sizes, entry, is_free, key, unless_key, pred_key, inside_key}
 use Rattle.declared_names.specs.NamesByNumber.{Typed, typed_codes, variables_of, parameters_of, shown, hidden, declared_key, reaching, leaving, title_named, parameters_shown, operation_key, operation_named, operations_key}
 use Rattle.declared_names.specs.PassPromises.{DeclaredEnd, PredicateEnd, ConditionSeen, DeclaredSeen, ShownSeen, HiddenSeen, ReachingSeen, LeavingSeen, SideSeen, SidesSeen, Variables, operation_code, OperationEnd, OperationSeen, OperationsSeen}
-use Rattle.declared_names.proofs.DeclarationNodes.{inside-none, inside-some}
-use Rattle.names.proofs.PassSteps.{variables-codes, parameters-codes, front, back}
+use Rattle.type_rules.proofs.TypeNumbers.{inside-none, inside-some}
+use Rattle.names.proofs.PassSteps.{variables-codes, parameters-codes, front, back, declared-cut}
 
 -- the variables of a state, plain and primed
 pub reaching-seen : (vs : List ℕ) (T T₁ U : Names) → ShownSeen vs 0 T T₁ → ShownSeen vs 1 T₁ U → ReachingSeen vs T U
@@ -52,10 +52,7 @@ module _ (code A C fs cs : List ℕ) (n : ℕ) (end : PredicateEnd code 0 n) (fs
     pub sides-faulty : (f ≡ 0 → ⊥) → (U : Names) → SidesSeen code A C T U z f
     sides-faulty not U =
         record {
-          right =
-              λ p q i j av cv ρ e v.
-              let d = first.right p av i v.i ρ (sides-front p q i j ρ e) v.first in
-              d ∙ sym (inside-some (pred_key p (reaching av T ρ) ρ z i) (pred_key q (reaching cv (leaving av (reaching av T ρ) ρ) ρ) ρ z j) (λ w. not (d ∙ w)));
+          right = λ p q i j av cv ρ e v. inside-some _ (first.right p av i v.i ρ (sides-front p q i j ρ e) v.first) not;
           named = λ p q i j av cv ρ e v w. elim (not w) [ ];
         }
 
@@ -68,7 +65,7 @@ module _ (code A C fs cs : List ℕ) (n : ℕ) (end : PredicateEnd code 0 n) (fs
               let t = first.named av v.i ρ v.first in
               second.right q cv j v.j ρ (sides-back p q i j ρ e) v.second
               ∙ (ap (λ (c : Names). pred_key q (reaching cv c ρ) ρ z j) t
-              ∙ sym (inside-none (pred_key p (reaching av T ρ) ρ z i) (pred_key q (reaching cv (leaving av (reaching av T ρ) ρ) ρ) ρ z j) (sym d ∙ w)));
+              ∙ inside-none d w);
           named =
               λ p q i j av cv ρ e v x.
               let t = first.named av v.i ρ v.first in
@@ -135,27 +132,24 @@ module _ (code A C : List ℕ) (T : Names) (z : Sizes) (x old w f : ℕ) (x-is :
   unfolding operation_key
   operation-titled not U =
       record {
-        right =
-            λ o i av cv ρ e v.
-            let d = title-fault o i ρ e in
-            d ∙ sym (inside-some (unless_key (is_free (entry T (number_of_name ρ o.title no_ending))) (key (i + 1) 8)) (inside_key (declared_key (parameters_in o) (title_named o T ρ) ρ z (i + 2)) (inside_key (pred_key o.abstractly (reaching av (parameters_shown o T ρ) ρ) ρ z (abstractly_at i o)) (pred_key o.concretely (reaching cv (leaving av (reaching av (parameters_shown o T ρ) ρ) ρ) ρ) ρ z (suc (abstractly_at i o) + pred_width o.abstractly)))) (λ q. not (d ∙ q)));
+        right = λ o i av cv ρ e v. inside-some _ (title-fault o i ρ e) not;
         named = λ o i av cv ρ e v q. elim (not q) [ ];
       }
 
   module _ (f-none : f ≡ 0) (rest ps cs : List ℕ) (n : ℕ) (end : DeclaredEnd rest n) (rest-is : rest ≡ drop 4 code) (ps-is : ps ≡ take n rest) (cs-is : cs ≡ drop n rest)
       (T₁ T₂ : Names) (g : ℕ) (put : T₁ ≡ set T x 2) (declared : DeclaredSeen ps T₁ T₂ z g) where
     module _ (o : Operation) (i : ℕ) (ρ : Numbering) (e : code ≡ operation_code i o ρ) where
-      operation-rest : rest ≡ typed_codes (i + 2) (parameters_in o) ρ ++ (abstract_codes i o ρ ++ concrete_codes i o ρ)
-      operation-rest = rest-is ∙ (ap (λ (l : List ℕ). drop 4 l) e ∙ ap (λ (l : List ℕ). l ++ (abstract_codes i o ρ ++ concrete_codes i o ρ)) (sym (parameters-codes (i + 2) o.parameters ρ)))
-
-      operation-length : n ≡ length (typed_codes (i + 2) (parameters_in o) ρ)
-      operation-length = end.right (parameters_in o) (i + 2) ρ (abstract_codes i o ρ ++ concrete_codes i o ρ) operation-rest (no-parameter (abstractly_at i o) o.abstractly ρ (concrete_codes i o ρ))
+      operation-cut : (take n rest ≡ typed_codes (i + 2) (parameters_in o) ρ) × (drop n rest ≡ abstract_codes i o ρ ++ concrete_codes i o ρ)
+      operation-cut =
+          declared-cut rest n end (parameters_in o) (i + 2) ρ (abstract_codes i o ρ ++ concrete_codes i o ρ)
+          (rest-is ∙ (ap (λ (l : List ℕ). drop 4 l) e ∙ ap (λ (l : List ℕ). l ++ (abstract_codes i o ρ ++ concrete_codes i o ρ)) (sym (parameters-codes (i + 2) o.parameters ρ))))
+          (no-parameter (abstractly_at i o) o.abstractly ρ (concrete_codes i o ρ))
 
       operation-front : ps ≡ typed_codes (i + 2) (parameters_in o) ρ
-      operation-front = ps-is ∙ front rest n (typed_codes (i + 2) (parameters_in o) ρ) (abstract_codes i o ρ ++ concrete_codes i o ρ) operation-rest operation-length
+      operation-front = ps-is ∙ operation-cut.0
 
       operation-back : cs ≡ abstract_codes i o ρ ++ concrete_codes i o ρ
-      operation-back = cs-is ∙ back rest n (typed_codes (i + 2) (parameters_in o) ρ) (abstract_codes i o ρ ++ concrete_codes i o ρ) operation-rest operation-length
+      operation-back = cs-is ∙ operation-cut.1
 
       named-title : T₁ ≡ title_named o T ρ
       named-title = put ∙ ap (λ (m : ℕ). set T m 2) (title-number o i ρ e)
@@ -166,9 +160,6 @@ module _ (code A C : List ℕ) (T : Names) (z : Sizes) (x old w f : ℕ) (x-is :
       declared-names : g ≡ 0 → T₂ ≡ parameters_shown o T ρ
       declared-names q = declared.named (parameters_in o) (i + 2) ρ operation-front q ∙ ap (λ (t : Names). shown (parameters_in o) 0 t ρ) named-title
 
-      no-title-fault : unless_key (is_free (entry T (number_of_name ρ o.title no_ending))) (key (i + 1) 8) ≡ 0
-      no-title-fault = sym (title-fault o i ρ e) ∙ f-none
-
     abbrev both_keys : Operation → ℕ → List Declaration → List Declaration → Numbering → Names → ℕ
     both_keys o i av cv ρ t = inside_key (pred_key o.abstractly (reaching av t ρ) ρ z (abstractly_at i o)) (pred_key o.concretely (reaching cv (leaving av (reaching av t ρ) ρ) ρ) ρ z (suc (abstractly_at i o) + pred_width o.abstractly))
 
@@ -176,14 +167,7 @@ module _ (code A C : List ℕ) (T : Names) (z : Sizes) (x old w f : ℕ) (x-is :
     unfolding operation_key
     operation-declared not U =
         record {
-          right =
-              λ o i av cv ρ e v.
-              let d = declared-fault o i ρ e in
-              let D = declared_key (parameters_in o) (title_named o T ρ) ρ z (i + 2) in
-              let P = both_keys o i av cv ρ (parameters_shown o T ρ) in
-              d
-              ∙ (sym (inside-some D P (λ q. not (d ∙ q)))
-              ∙ sym (inside-none (unless_key (is_free (entry T (number_of_name ρ o.title no_ending))) (key (i + 1) 8)) (inside_key D P) (no-title-fault o i ρ e)));
+          right = λ o i av cv ρ e v. inside-some _ (declared-fault o i ρ e) not ∙ inside-none (title-fault o i ρ e) f-none;
           named = λ o i av cv ρ e v q. elim (not q) [ ];
         }
 
@@ -193,12 +177,9 @@ module _ (code A C : List ℕ) (T : Names) (z : Sizes) (x old w f : ℕ) (x-is :
         record {
           right =
               λ o i av cv ρ e v.
-              let D = declared_key (parameters_in o) (title_named o T ρ) ρ z (i + 2) in
-              let P = both_keys o i av cv ρ (parameters_shown o T ρ) in
               seen.right o.abstractly o.concretely (abstractly_at i o) (suc (abstractly_at i o) + pred_width o.abstractly) av cv ρ (operation-back o i ρ e) v
               ∙ (ap (λ (t : Names). both_keys o i av cv ρ t) (declared-names o i ρ e none)
-              ∙ (sym (inside-none D P (sym (declared-fault o i ρ e) ∙ none))
-              ∙ sym (inside-none (unless_key (is_free (entry T (number_of_name ρ o.title no_ending))) (key (i + 1) 8)) (inside_key D P) (no-title-fault o i ρ e))));
+              ∙ (inside-none (declared-fault o i ρ e) none ∙ inside-none (title-fault o i ρ e) f-none));
           named =
               λ o i av cv ρ e v q.
               hid (parameters_in o) (i + 2) ρ (operation-front o i ρ e)
@@ -281,15 +262,14 @@ module _ (code A C part : List ℕ) (at n : ℕ) (U U' : Names) (z : Sizes) (f :
         here = part-behind o os j e;
         same =
             ap (λ (c : Names). operations_key os av cv c ρ z (j + operation_length o)) t
-            ∙ (sym (inside-none (operation_key o av cv U ρ z j) (operations_key os av cv (operation_named o av cv U ρ) ρ z (j + operation_length o)) (sym d ∙ q)) ∙ s);
+            ∙ (inside-none d q ∙ s);
       }
 
   onward-stop : (f ≡ 0 → ⊥) → (os : List Operation) (j : ℕ) → drop at code ≡ operation_codes j os ρ → operations_key os av cv U ρ z j ≡ v → f ≡ v
   unfolding operations_key
   onward-stop q [] j e s = elim (none_left j e) [ ]
   onward-stop q (o ∷ os) j e s =
-      let d = seen.right o j av cv ρ (part-first o os j e) vs in
-      d ∙ (sym (inside-some (operation_key o av cv U ρ z j) (operations_key os av cv (operation_named o av cv U ρ) ρ z (j + operation_length o)) (λ w. q (d ∙ w))) ∙ s)
+      inside-some _ (seen.right o j av cv ρ (part-first o os j e) vs) q ∙ s
 
 onward-end : (code : List ℕ) (at : ℕ) (U : Names) (z : Sizes) (av cv : List Declaration) (ρ : Numbering) (v : ℕ) → length code < at + 4
     → (os : List Operation) (j : ℕ) → drop at code ≡ operation_codes j os ρ → operations_key os av cv U ρ z j ≡ v → 0 ≡ v

@@ -1,6 +1,6 @@
 -- The items of a brace, and its pairs: what their numbers have in common, and whether their types fit.
 use mathlib.Core.Path.{◌≡◌, refl, ap, ap₂, ◌∙◌, sym}
-use mathlib.Core.Bool.{Bool, true, false, ◌&&◌, cond}
+use mathlib.Core.Bool.{Bool, true, false, ◌&&◌, cond, and-true, and-false}
 use mathlib.Core.List.{List, [], ◌∷◌}
 use mathlib.Core.Option.{some}
 use Prim.Native.Nat.{ℕ, ◌+◌, ◌-◌, ◌*◌, ◌≤◌}
@@ -16,7 +16,7 @@ use Rattle.type_rules.specs.TypesByNumber.{is_element, set_of, pair_of, shared}
 use Rattle.names.proofs.ReachTables.{index_of, titled, type_code, Known, TypeIs}
 use Rattle.names.proofs.TypesAgreeTypes.{no-yes, and_true, ElementType, element_type, element-type, code-positive, is-element, same-types, two-givens, set-type}
 use Rattle.declared_names.proofs.StaticRulesSameTypes.{same-type}
-use Rattle.lexical.proofs.BooleanTests.{both-true}
+use Rattle.std.proofs.lemmas.Bool.{and_parts}
 
 cond_same : (b : Bool) (n : ℕ) → cond b n n ≡ n
 cond_same true n = refl
@@ -45,14 +45,6 @@ step true q false d e x y h same_number same-sort same_rest = on q refl y
     on true r true = rw (same_number refl r)
     on true r false = shared-zero d h
     on false r y = shared-zero d h
-
-and_one : (p : Bool) → p ≡ (p && true)
-and_one true = refl
-and_one false = refl
-
-and_none : (p : Bool) → false ≡ (p && false)
-and_none true = refl
-and_none false = refl
 
 -- the items of a brace have the number k in common
 pub data Common (gs : List Given) : List Ty → ℕ → Type 0 where
@@ -92,13 +84,13 @@ module _ (gs : List Given) (few : length gs ≤ 8) where
   brace-fits (common {t = t} {ts = ts} a e) = ap is_element e ∙ on (all (same_type t) ts)
     where
       on : (b : Bool) → is_element (cond b (type_code gs t) 0) ≡ (has t ty.is_element && b)
-      on true = is-element gs few a ∙ and_one (has t ty.is_element)
-      on false = and_none (has t ty.is_element)
+      on true = is-element gs few a ∙ sym (and-true (has t ty.is_element))
+      on false = sym (and-false (has t ty.is_element))
 
   pub brace-type : {ts : List Ty} {k : ℕ} → Common gs ts k → brace_fits ts ≡ true → TypeIs gs (some (brace_type ts)) (set_of k)
   unfolding brace_fits
   brace-type (common {t = t} {ts = ts} a e) f =
-      let h = both-true (has t ty.is_element) (all (same_type t) ts) f in
+      let h = and_parts (has t ty.is_element) (all (same_type t) ts) f in
       let w = set-type gs few a h.0 in
       (ap set_of (e ∙ ap (λ (b : Bool). cond b (type_code gs t) 0) h.1) ∙ w.0, w.1)
 
@@ -119,13 +111,13 @@ module _ (gs : List Given) (few : length gs ≤ 8) where
       number g h = omega arith
 
   both-elements : {t u : Ty} → Known gs t → Known gs u → (has t ty.is_element && has u ty.is_element) ≡ true → ElementType gs t × ElementType gs u
-  both-elements {t} {u} a b e = let h = both-true (has t ty.is_element) (has u ty.is_element) e in (element-type a h.0, element-type b h.1)
+  both-elements {t} {u} a b e = let h = and_parts (has t ty.is_element) (has u ty.is_element) e in (element-type a h.0, element-type b h.1)
 
   pub pairs-only : {t u : Ty} {k l : ℕ} → TypeIs gs (some t) k → TypeIs gs (some u) l → CommonPairs gs ((t, u) ∷ []) (pair_of k l)
   unfolding pairs_fit all
   pairs-only {t = t} {u = u} v w =
       common_pairs v.1 w.1 (ap₂ pair_of v.0 w.0 ∙ pair_is v.1 w.1
-      ∙ ap (λ (c : Bool). cond c (pair_number (type_code gs t) (type_code gs u)) 0) (and_one (has t ty.is_element && has u ty.is_element)))
+      ∙ ap (λ (c : Bool). cond c (pair_number (type_code gs t) (type_code gs u)) 0) (sym (and-true (has t ty.is_element && has u ty.is_element))))
 
   pub pairs-also : {t u : Ty} {ts : List (Ty × Ty)} {k l m : ℕ} → TypeIs gs (some t) k → TypeIs gs (some u) l → CommonPairs gs ts m
       → CommonPairs gs ((t, u) ∷ ts) (shared (pair_of k l) m)
@@ -135,9 +127,9 @@ module _ (gs : List Given) (few : length gs ≤ 8) where
       ∙ step (has t ty.is_element && has u ty.is_element) (has x ty.is_element && has y ty.is_element) (same_type t x && same_type u y)
       (pair_number (type_code gs t) (type_code gs u)) (pair_number (type_code gs x) (type_code gs y)) (rest t u) (rest x y) (omega arith)
       (λ p q. let h = both-elements v.1 w.1 p in let k = both-elements a b q in same-pair h.0 h.1 k.0 k.1)
-      (λ p. let h = both-true (same_type t x) (same_type u y) p in
+      (λ p. let h = and_parts (same_type t x) (same_type u y) p in
       ap₂ (λ (r s : Ty). has r ty.is_element && has s ty.is_element) (same-type t x h.0) (same-type u y h.1))
-      (λ p. let h = both-true (same_type t x) (same_type u y) p in ap₂ rest (same-type t x h.0) (same-type u y h.1)))
+      (λ p. let h = and_parts (same_type t x) (same_type u y) p in ap₂ rest (same-type t x h.0) (same-type u y h.1)))
     where
       rest : Ty → Ty → Bool
       rest r s = all (λ (z : Ty × Ty). same_type r z.0 && same_type s z.1) ts
@@ -145,7 +137,7 @@ module _ (gs : List Given) (few : length gs ≤ 8) where
   pub pairs-type : {ts : List (Ty × Ty)} {k : ℕ} → CommonPairs gs ts k → pairs_fit ts ≡ true → PairsType gs ts k
   unfolding pairs_fit
   pairs-type (common_pairs {t = t} {u = u} {ts = ts} {k = k} a b e) f =
-      let h = both-elements a b (both-true (has t ty.is_element && has u ty.is_element) (all (λ (z : Ty × Ty). same_type t z.0 && same_type u z.1) ts) f).0 in
+      let h = both-elements a b (and_parts (has t ty.is_element && has u ty.is_element) (all (λ (z : Ty × Ty). same_type t z.0 && same_type u z.1) ts) f).0 in
       on h.0 h.1 (e ∙ ap (λ (c : Bool). cond c (pair_number (type_code gs t) (type_code gs u)) 0) f)
     where
       on : {t u : Ty} → ElementType gs t → ElementType gs u → k ≡ pair_number (type_code gs t) (type_code gs u) → PairsType gs ((t, u) ∷ ts) k

@@ -1,11 +1,11 @@
 -- Ranges: the ends as integers, and as numbers with 1,000 added.
 use mathlib.Core.Path.{◌≡◌, refl, ap, ap₂, ◌∙◌, sym}
-use mathlib.Core.Bool.{Bool, true, false, ◌&&◌, cond}
+use mathlib.Core.Bool.{Bool, true, false, false≢true, ◌&&◌, cond}
 use Prim.Native.Nat.{ℕ, zero, suc, ◌+◌, ◌-◌, ◌≤◌}
 use native.Mathlib.Omega.{arith}
 use lib.Dec.{leb, ltb}
-use lib.IntN.{ℤ, pos, negsuc, sub_ℕ}
-use lib.Signed.{lt_z}
+use lib.IntN.{ℤ, pos, negsuc, nat_abs, sub_ℕ, ◌-ℤ◌}
+use lib.Signed.{le_z, lt_z}
 use borrow.Author.Tests.{leb-true, leb-false, le-leb, lt-leb, le-ltb}
 use Rattle.form.specs.Tree.{Range}
 use Rattle.form.specs.Codes.{end_number, end_width}
@@ -56,6 +56,17 @@ fits-stand (below {a = a} {k = k} e) (above {a = b} {k = l} f) =
 fits-stand (below {a = a} {k = k} e) (below {a = b} {k = l} f) =
     both (leb k l) (ltb l (k + 64)) (leb b a) (lt_z (sub_ℕ (suc a) (suc b)) (pos 64)) (leb_shift k l b a (omega arith))
     (λ p. leb_shift (suc l) (k + 64) (suc (suc a)) (suc b + 64) (omega arith) ∙ sym (sub-width (suc a) (suc b) (omega (arith, leb-true k l p))))
+
+-- how far the second of two ends stands behind the first
+sub_abs : (a b : ℕ) → b ≤ a → nat_abs (sub_ℕ a b) ≡ a - b
+sub_abs a b h = ap (λ (t : Bool). nat_abs (cond t (negsuc (b - suc a)) (pos (a - b)))) (le-ltb a b h)
+
+pub stand-width : {x y : ℤ} {k l : ℕ} → Stands x k → Stands y l → le_z x y ≡ true → k + nat_abs (y -ℤ x) ≡ l
+stand-width (above {a = zero} {k = k} e) (above {a = b} {k = l} f) h = omega arith
+stand-width (above {a = suc a} {k = k} e) (above {a = b} {k = l} f) h = let o = leb-true (suc a) b h in omega (arith, sub_abs b (suc a) o)
+stand-width (above {a = a} {k = k} e) (below {a = b} {k = l} f) h = absurd (false≢true h)
+stand-width (below {a = a} {k = k} e) (above {a = b} {k = l} f) h = omega arith
+stand-width (below {a = a} {k = k} e) (below {a = b} {k = l} f) h = let o = leb-true b a h in omega (arith, sub_abs (suc a) (suc b) (omega arith))
 
 pub range-least : (r : Range) (i : ℕ) → RangeIn r → unless_key (range_fits (end_number r.lower) (end_number r.upper)) (key (i + end_width r.lower) 11) ≡ least_key (range_faults r i)
 unfolding range_faults number_of

@@ -10,7 +10,7 @@ use lib.Seq.{get_or-set_same, get_or-set_other}
 use borrow.Author.Tests.{ne_eqb}
 use Rattle.lexical.specs.Lists.{same, any, find}
 use Rattle.lexical.specs.Symbols.{Name, Ending, no_ending, prime, query, shriek}
-use Rattle.lexical.proofs.WordLaws.{same_refl, same_true}
+use Rattle.lexical.proofs.WordLaws.{same_refl, same_true, same_turned}
 use Rattle.form.specs.Tree.{Letters, Given}
 use Rattle.form.specs.Codes.{Numbering, number_of_name, name_number}
 use Rattle.declared_names.specs.StaticRulesCarriers.{Carrier, Variable, size_of, same_name, plain, given_of}
@@ -143,13 +143,6 @@ untitled (g ∷ gs) l e = on (same g.title l) refl (untitled gs l) e
 pub apart : (ρ : Numbering) (P : Letters → Type 0) → Numbered ρ P → (x y : Letters) → P x → P y → same y x ≡ false → ρ y ≡ ρ x → ⊥
 apart ρ P ν x y px py h e = no-yes (sym h ∙ ap (same y) (sym (ν.own y x py px e)) ∙ same_refl y)
 
-pub turned : (x y : Letters) → same y x ≡ false → same x y ≡ false
-turned x y e = on (same x y) refl
-  where
-    on : (b : Bool) → same x y ≡ b → b ≡ false
-    on true h = no-yes (sym e ∙ ap (same y) (same_true x y h) ∙ same_refl y)
-    on false h = refl
-
 module _ (ρ : Numbering) (P : Letters → Type 0) (ν : Numbered ρ P) (Γ : Scope) (T : Names) (z : Sizes) (s : Shows ρ P Γ T z)
     (x : Letters) (px : P x) (new : is_taken Γ.taken x ≡ false) (c : Carrier) (k : ℕ) (w : TypeIs Γ.givens (some (type_of c)) k) where
   -- a name other than the bound one
@@ -226,7 +219,7 @@ module _ (ρ : Numbering) (P : Letters → Type 0) (ν : Numbered ρ P) (Γ : Sc
       on no_ending true q =
           subst (λ (l : Letters). TypeIs Γ.givens (type_of_name (binding Γ x c) (plain l)) (entry (set T (number_of_name ρ x no_ending) k) (number_of_name ρ l no_ending)))
           (sym (same_true y.letters x q)) this-typed
-      on no_ending false q = other-typed (plain y.letters) py (turned x y.letters q) (λ e. apart ρ P ν x y.letters px py q (omega arith))
+      on no_ending false q = other-typed (plain y.letters) py (same_turned x y.letters q) (λ e. apart ρ P ν x y.letters px py q (omega arith))
       on prime b q = other-typed (record { letters = y.letters; ending = prime }) py refl (omega arith)
       on query b q = other-typed (record { letters = y.letters; ending = query }) py refl (omega arith)
       on shriek b q = other-typed (record { letters = y.letters; ending = shriek }) py refl (omega arith)

@@ -1,6 +1,6 @@
 -- Types by numbers: the tests of the definitions on types over given sets that there are, and those of the pass on their numbers.
-use mathlib.Core.Path.{◌≡◌, refl, ap, ap₂, ◌∙◌, sym, subst}
-use mathlib.Core.Bool.{Bool, true, false, ◌&&◌, ◌||◌}
+use mathlib.Core.Path.{◌≡◌, refl, ap, ap₂, ◌∙◌, sym}
+use mathlib.Core.Bool.{Bool, true, false, ◌&&◌, ◌||◌, false≢true}
 use mathlib.Core.List.{List, [], ◌∷◌}
 use mathlib.Core.Option.{some}
 use Prim.Native.Nat.{ℕ, suc, ◌+◌, ◌*◌, ◌≤◌, ◌<◌}
@@ -17,14 +17,10 @@ use Rattle.type_rules.specs.TypesByNumber as inner
 use Rattle.type_rules.specs.TypesByNumber.{is_number, is_given, is_element, is_set, is_pairs, in_reach, set_of, pair_of, dom_of, ran_of}
 use Rattle.names.proofs.ReachTables.{index_of, titled, type_code, Known, known_number, known_element, known_set, known_pairs, TypeIs}
 use Rattle.names.proofs.TypesAgreeRanges.{both}
-use Rattle.lexical.proofs.BooleanTests.{both-true}
-
-abbrev Yes : Bool → Type 0
-Yes true = Unit {0}
-Yes false = ⊥
+use Rattle.std.proofs.lemmas.Bool.{and_parts}
 
 pub no-yes : {A : Type 0} → false ≡ true → A
-no-yes e = absurd (subst Yes (sym e) tt)
+no-yes e = absurd (false≢true e)
 
 -- ---- given sets by their index ----
 
@@ -230,7 +226,7 @@ module _ (gs : List Given) (few : length gs ≤ 8) where
   related-fits {t} {u} {v} a b c =
       both (is_element (type_code gs t) && is_element (type_code gs u)) (eqb (pair_of (type_code gs t) (type_code gs u)) (type_code gs v))
       (has t ty.is_element && has u ty.is_element) (same_type (ty.pairs_of_types t u) v) (ap₂ ◌&&◌ (is-element a) (is-element b))
-      (λ e. let h = both-true (is_element (type_code gs t)) (is_element (type_code gs u)) e in
+      (λ e. let h = and_parts (is_element (type_code gs t)) (is_element (type_code gs u)) e in
       pairs-agree (element-type a (sym (is-element a) ∙ h.0)) (element-type b (sym (is-element b) ∙ h.1)) c)
 
   pub set-type : {t : Ty} → Known gs t → has t ty.is_element ≡ true → TypeIs gs (some (ty.set_of t)) (set_of (type_code gs t))

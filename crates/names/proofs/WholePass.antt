@@ -1,40 +1,20 @@
 -- The whole pass: its tables are cleared, and its parts are those of a dossier.
 use mathlib.Core.Path.{◌≡◌, refl, ap, sym, ◌∙◌}
-use mathlib.Core.List.{List, [], ◌++◌, map, append_assoc}
-use mathlib.Core.Logic.{inl, inr}
+use mathlib.Core.List.{List, ◌++◌, map, append_assoc}
 use Prim.Native.Nat.{ℕ, suc, ◌+◌, ◌-◌, ◌≤◌, ◌<◌}
 use native.Mathlib.Omega.{arith}
-use lib.ListN.{length, take, drop, get_or, replicate, length-append, length-drop, take-append-drop}
+use lib.ListN.{length, take, drop, get_or, replicate, length-append, take-append-drop}
 use lib.Seq.{drop-drop, length-take-le}
-use Rattle.std.specs.Prelude.{Option, None, Some, unwrap_or}
-use Rattle.std.specs.Slice.{IsGetRangeResult}
-use Rattle.std.proofs.Common.{Bor}
 use Rattle.form.specs.Tree.{declarations, Dossier}
 use Rattle.form.specs.Headings.{givens_at, abstract_at, concrete_at, ainit_at, cinit_at, retrieve_at, operations_at}
 use Rattle.form.specs.Codes.{Numbering, contents_codes, condition_codes, dossier_codes, given_codes, state_codes, operation_codes}
+use Rattle.parser.specs.Sections.{PartOf}
 use Rattle.declared_names.specs.StaticRulesCarriers.{size_of}
 use Rattle.type_rules.specs.TypesByNumber.{Names, Sizes, inside_key}
 use Rattle.declared_names.specs.NamesByNumber.{givens_key, givens_named, state_key, state_named, conditions_key, conditions_named, operations_key, dossier_key}
-use Rattle.declared_names.specs.PassPromises.{DeclaredEnd, Fewer, GivenSeen, StateSeen, ConditionsSeen, OperationsSeen, Variables, three_codes, PartOf, VariablesOf, LaterSeen, Placed, CheckSeen}
-use Rattle.declared_names.proofs.DeclarationNodes.{inside-none, inside-some}
+use Rattle.declared_names.specs.PassPromises.{DeclaredEnd, Fewer, GivenSeen, StateSeen, ConditionsSeen, OperationsSeen, Variables, three_codes, VariablesOf, LaterSeen, Placed, CheckSeen}
+use Rattle.type_rules.proofs.TypeNumbers.{inside-none, inside-some}
 use Rattle.names.proofs.PassSteps.{never-state, state-front, variables-codes, front, back}
-
--- some of the nodes
-pub part-cut : (nodes : List ℕ) (from to : ℕ) (o : Option (Bor (List ℕ))) (none r : Bor (List ℕ)) → IsGetRangeResult nodes from to o → none.now ≡ [] → r ≡ unwrap_or o none
-    → PartOf nodes from to r.now
-part-cut nodes from to None none r h e q =
-    let empty : r.now ≡ [] = ap (λ (b : Bor (List ℕ)). b.now) q ∙ e in
-    record {
-      fits = λ l. let z : length r.now ≡ 0 = ap (λ (x : List ℕ). length x) empty in absurd (omega arith);
-      part = λ p k. elim h.0 [ inl w ↦ absurd (omega arith) | inr w ↦ absurd (omega arith) ];
-      none = λ u. empty;
-    }
-part-cut nodes from to (Some x) none r h e q =
-    let is : r.now ≡ take (to - from) (drop from nodes) = ap (λ (b : Bor (List ℕ)). b.now) q ∙ h.0.2 in
-    let d = length-drop from nodes in
-    let l = length-take-le (to - from) (drop from nodes) (omega (arith, h.0.0, h.0.1)) in
-    let long : length r.now ≡ to - from = ap (λ (y : List ℕ). length y) is ∙ l in
-    record { fits = λ k. omega (arith, h.0.0, h.0.1); part = λ p k. is; none = λ u. absurd (u h.0.0 h.0.1) }
 
 -- the variables of a state
 pub variables-short : (code r : List ℕ) → length code < 4 → VariablesOf code r
@@ -57,10 +37,7 @@ module _ (three last one two av cv : List ℕ) (T T₁ : Names) (z : Sizes) (f :
       }
 
   pub later-faulty : (f ≡ 0 → ⊥) → LaterSeen three last one two T z f
-  later-faulty not d ρ e o a c =
-      let k = seen.right d ρ e (both d ρ a c) in
-      k
-      ∙ sym (inside-some (conditions_key d T ρ z) (operations_key d.operations (declarations d.abstract) (declarations d.concrete) (conditions_named d T ρ) ρ z (operations_at d)) (λ w. not (k ∙ w)))
+  later-faulty not d ρ e o a c = inside-some _ (seen.right d ρ e (both d ρ a c)) not
 
   pub later-seen : f ≡ 0 → (g : ℕ) → OperationsSeen last av cv T₁ z g → LaterSeen three last one two T z g
   later-seen none g ops d ρ e o a c =
@@ -69,7 +46,7 @@ module _ (three last one two av cv : List ℕ) (T T₁ : Names) (z : Sizes) (f :
       let t = seen.named d ρ e v none in
       ops d.operations (operations_at d) (declarations d.abstract) (declarations d.concrete) ρ o v
       ∙ (ap (λ (n : Names). operations_key d.operations (declarations d.abstract) (declarations d.concrete) n ρ z (operations_at d)) t
-      ∙ sym (inside-none (conditions_key d T ρ z) (operations_key d.operations (declarations d.abstract) (declarations d.concrete) (conditions_named d T ρ) ρ z (operations_at d)) (sym k ∙ none)))
+      ∙ inside-none k none)
 
 -- the whole
 module _ (nodes : List ℕ) (m gi ab co ai af n : ℕ) (first : List ℕ) (first_part : PartOf nodes gi ab first) (T T₁ : Names) (z : Sizes) (f : ℕ)
@@ -118,10 +95,7 @@ module _ (nodes : List ℕ) (m gi ab co ai af n : ℕ) (first : List ℕ) (first
   pub check-given : (f ≡ 0 → ⊥) → CheckSeen nodes m gi ab co ai af n z f
   check-given not =
       record {
-        right =
-            λ d ρ at few.
-            let k = givens-fault d ρ at few in
-            k ∙ (sym (inside-some (given_key d ρ) (inside_key (abstract_key d ρ) (inside_key (concrete_key d ρ) (later_key d ρ (names_three d ρ)))) (λ w. not (k ∙ w))) ∙ sym (in_order d ρ));
+        right = λ d ρ at few. inside-some _ (givens-fault d ρ at few) not ∙ sym (in_order d ρ);
         sized = sizes-right;
       }
 
@@ -137,15 +111,12 @@ module _ (nodes : List ℕ) (m gi ab co ai af n : ℕ) (first : List ℕ) (first
       names-two q = state-one.named d.abstract (abstract_at d) ρ one-here q ∙ ap (λ (t : Names). state_named d.abstract t ρ) (names-one d ρ at few f-none)
 
       past-given : inside_key (abstract_key d ρ) (inside_key (concrete_key d ρ) (later_key d ρ (names_three d ρ))) ≡ dossier_key d (replicate n 0) ρ z
-      past-given = sym (inside-none (given_key d ρ) (inside_key (abstract_key d ρ) (inside_key (concrete_key d ρ) (later_key d ρ (names_three d ρ)))) (sym (givens-fault d ρ at few) ∙ f-none)) ∙ sym (in_order d ρ)
+      past-given = inside-none (givens-fault d ρ at few) f-none ∙ sym (in_order d ρ)
 
     pub check-one : (a ≡ 0 → ⊥) → CheckSeen nodes m gi ab co ai af n z a
     check-one not =
         record {
-          right =
-              λ d ρ at few.
-              let k = one-fault d ρ at few in
-              k ∙ (sym (inside-some (abstract_key d ρ) (inside_key (concrete_key d ρ) (later_key d ρ (names_three d ρ))) (λ w. not (k ∙ w))) ∙ past-given d ρ at few);
+          right = λ d ρ at few. inside-some _ (one-fault d ρ at few) not ∙ past-given d ρ at few;
           sized = sizes-right;
         }
 
@@ -161,15 +132,12 @@ module _ (nodes : List ℕ) (m gi ab co ai af n : ℕ) (first : List ℕ) (first
         names-three q = state-two.named d.concrete (concrete_at d) ρ two_here q ∙ ap (λ (t : Names). state_named d.concrete t ρ) (names-two d ρ at few a-none)
 
         past_one : inside_key (concrete_key d ρ) (later_key d ρ (names_three d ρ)) ≡ dossier_key d (replicate n 0) ρ z
-        past_one = sym (inside-none (abstract_key d ρ) (inside_key (concrete_key d ρ) (later_key d ρ (names_three d ρ))) (sym (one-fault d ρ at few) ∙ a-none)) ∙ past-given d ρ at few
+        past_one = inside-none (one-fault d ρ at few) a-none ∙ past-given d ρ at few
 
       pub check-two : (c ≡ 0 → ⊥) → CheckSeen nodes m gi ab co ai af n z c
       check-two not =
           record {
-            right =
-                λ d ρ at few.
-                let k = two-fault d ρ at few in
-                k ∙ (sym (inside-some (concrete_key d ρ) (later_key d ρ (names_three d ρ)) (λ w. not (k ∙ w))) ∙ past_one d ρ at few);
+            right = λ d ρ at few. inside-some _ (two-fault d ρ at few) not ∙ past_one d ρ at few;
             sized = sizes-right;
           }
 
@@ -183,7 +151,7 @@ module _ (nodes : List ℕ) (m gi ab co ai af n : ℕ) (first : List ℕ) (first
                 let o = at.ordered in
                 seen d ρ (three-part.part (omega arith) (omega arith) ∙ at.condition_part) (last-part.part (omega arith) (omega arith) ∙ at.operation_part) (one-here d ρ at few) (two_here d ρ at few)
                 ∙ (ap (λ (t : Names). later_key d ρ t) (names-three d ρ at few c-none)
-                ∙ (sym (inside-none (concrete_key d ρ) (later_key d ρ (names_three d ρ)) (sym (two-fault d ρ at few) ∙ c-none)) ∙ past_one d ρ at few));
+                ∙ (inside-none (two-fault d ρ at few) c-none ∙ past_one d ρ at few));
             sized = sizes-right;
           }
 

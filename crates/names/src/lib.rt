@@ -5,15 +5,15 @@ ghost use Rattle.std.specs.Prelude.{length, replicate};
 ghost use Rattle.type_rules.specs.Passes.{refused_key};
 ghost use Rattle.declared_names.specs.PassPromises.{GivenSeen, CheckSeen};
 
-use crate::passes::{States, conditions, operations, part, state, variables_of};
+use crate::passes::{conditions, operations, state, variables_of};
 use declared_names::declared::give;
 use lexical::{bounds, endings};
-use parser::sections::{Bounds, Nodes};
+use parser::sections::{Bounds, Nodes, States, between};
 use refusals::Fault;
 use type_rules::entries;
 use type_rules::entries::Kind;
 
-pub mod passes;
+mod passes;
 
 // A number for each name, which is a symbol with one of the endings; a number for each given set.
 pub const NAMES: usize = bounds::SYMBOLS * endings::COUNT as usize;
@@ -29,18 +29,18 @@ pub fn least_fault(made: &Nodes<'_>, at: &Bounds, sizes: &mut [u16; SIZES]) -> R
     let nodes = made.numbers;
     let mut names = [entries::FREE; NAMES];
     sizes.fill(0);
-    let first = part(nodes, at.givens, at.abstracts);
+    let first = between(nodes, at.givens, at.abstracts);
     give(first, &mut names, sizes)?;
-    let one = part(nodes, at.abstracts, at.concretes);
+    let one = between(nodes, at.abstracts, at.concretes);
     state(one, &mut names, sizes)?;
-    let two = part(nodes, at.concretes, at.ainit);
+    let two = between(nodes, at.concretes, at.ainit);
     state(two, &mut names, sizes)?;
     let states = States {
         abstracts: variables_of(one),
         concretes: variables_of(two),
     };
-    let three = part(nodes, at.ainit, at.operations);
-    let last = part(nodes, at.operations, made.end);
+    let three = between(nodes, at.ainit, at.operations);
+    let last = between(nodes, at.operations, made.end);
     conditions(three, &states, &mut names, sizes)?;
     operations(last, &states, &mut names, sizes)
 }

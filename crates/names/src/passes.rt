@@ -3,38 +3,33 @@
 // promise besides that the sizes stay.
 ghost use Rattle.std.specs.Prelude.{◌+◌, ◌*◌, ◌≤◌, length};
 ghost use Rattle.type_rules.specs.Passes.{refused_key};
-ghost use Rattle.declared_names.specs.PassPromises.{DeclaredEnd, PredicateEnd, OperationEnd, ConditionSeen, StateSeen, SideSeen, SidesSeen, OperationSeen, OperationsSeen, ConditionsSeen, PartOf, VariablesOf};
+ghost use Rattle.declared_names.specs.PassPromises.{DeclaredEnd, PredicateEnd, OperationEnd, ConditionSeen, StateSeen, SideSeen, SidesSeen, OperationSeen, OperationsSeen, ConditionsSeen, VariablesOf};
 
 use declared_names::declared::{declare, hide, show};
 use form::name_endings::{PLAIN, PRIMED};
 use form::{node, shapes};
+use parser::sections::States;
 use refusals::{Fault, Refusal};
 use type_rules::entries;
 use type_rules::entries::Kind;
 use type_rules::kinds::{all_well, entry, look, put, unless};
 use typing::types::pred;
 
-// The variables of the two states, by their nodes.
-#[derive(Clone, Copy)]
-pub struct States<'a> {
-    pub abstracts: &'a [u16],
-    pub concretes: &'a [u16],
-}
-
 // How many numbers declarations have at the beginning of some nodes.
+// Form 2: `run` of `parser::sections` goes over such nodes too, but promises a `Run` by their numbers (`RunsTo`), not the end of declarations as trees (`DeclaredEnd`):
+// a law from the one to the other would be needed besides.
 fn declared_end(code: &[u16]) -> usize
     ensures { DeclaredEnd code.now result }
 {
-    let n = code.len() / node::DECLARATION;
-    let other = (0..n).find(
-        |&k|
-            requires { k * 8 + 8 ≤ length code.now }
-        { code[k * node::DECLARATION + node::SHAPE] != shapes::DECLARED },
-    );
-    other.unwrap_or(n) * node::DECLARATION
+    let declared = code
+        .chunks_exact(node::DECLARATION)
+        .take_while(|d| look(d, node::SHAPE) == shapes::DECLARED);
+    declared.count() * node::DECLARATION
 }
 
 // The end of a predicate whose node stands at a place, or of all nodes.
+// Form 2: `skip` of `parser::sections` goes over such a node too, but promises its size by shape and count (`Skips`), not the end of a predicate as a tree
+// (`PredicateEnd`): a law from the one to the other would be needed besides.
 fn predicate_end(code: &[u16], at: usize) -> usize
     requires { at ≤ length code.now }
     ensures { PredicateEnd code.now at result }
@@ -146,6 +141,7 @@ pub(crate) fn operations(
 }
 
 // ainit, cinit, retrieve.
+// Form 2: `set_conditions` of tables makes the same six calls of `show` and `hide` around another pass; one function for both would take that pass as a closure, as at `side`.
 pub(crate) fn conditions(
     code: &[u16],
     states: &States<'_>,
@@ -166,13 +162,6 @@ pub(crate) fn conditions(
     hide(states.abstracts, PLAIN, entries::USED, names);
     hide(states.concretes, PLAIN, entries::USED, names);
     h
-}
-
-// The nodes from one place to another; none where the places are not in order.
-pub fn part(nodes: &[u16], from: usize, to: usize) -> &[u16]
-    ensures { PartOf nodes.now from to result.now }
-{
-    nodes.get(from..to).unwrap_or(&nodes[..0])
 }
 
 // The nodes of the variables of a state.

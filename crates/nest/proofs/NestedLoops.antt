@@ -25,10 +25,6 @@ use Rattle.nest.proofs.NextCandidates.{no_outer, keep-abstract, keep-output, ste
 first-place : (n u s from : ℕ) → u * s ≤ from → (0 * n + u) * s ≤ from
 first-place n u s from h = omega arith
 
--- the first digit lies at `from` or behind it
-enter-low : (u y : ℕ) → u ≤ y + (u - y)
-enter-low u y = omega arith
-
 one_more : (x y c : ℕ) → x ≤ y + c → x ≤ y + (c + 1)
 one_more x y c h = omega arith
 
@@ -52,7 +48,7 @@ module _ {table plan cells : List ℕ} {p : Part} {from end : ℕ} where
       → b ≡ from / per_concrete p - a * p.concretes.bindings → mark ≡ key_in cells (pair_group p m) a + 1 → OpenConcrete table plan cells p m mark b s₁ s₂ c
       → InConcretes table plan cells p from end a mask c s₂
   enter-concretes {a} {mask} {b} {c} {mark} {m} {s₀} {s₁} {s₂} l h y e k r =
-      step-concretes (asked-after (λ G. G.inputs ++ G.readying) l.asked y.left) (enter-low _ _) (λ G T N. stands-in p.concretes.bindings (per_concrete p) a (here G T N)) k
+      step-concretes (asked-after (λ G. G.inputs ++ G.readying) l.asked y.left) (omega arith) (λ G T N. stands-in p.concretes.bindings (per_concrete p) a (here G T N)) k
       (subst (λ (t : ℕ). OpenConcrete table plan cells p m mark t s₁ s₂ c) e r)
     where
       here : (G : Groups) (T : PartTests) (N : Nest table plan cells p G T)
@@ -74,7 +70,7 @@ module _ {table plan cells : List ℕ} {p : Part} {from end : ℕ} where
   pub enter-inputs : {a mask c b i : ℕ} {s₀ s₁ : List (List ℤ)} → InConcretes table plan cells p from end a mask c s₀ → c < p.concretes.bindings
       → b ≡ from / per_input p - (a * p.concretes.bindings + c) * p.inputs.bindings → InputAnswers cells p mask b s₀ s₁ i → InInputs table plan cells p from end a mask c i s₁
   enter-inputs {a} {mask} {c} {b} {i} {s₀} {s₁} l h e r =
-      step-inputs l.asked (enter-low _ _)
+      step-inputs l.asked (omega arith)
       (λ G T N. stands-in p.inputs.bindings (per_input p) (a * p.concretes.bindings + c)
       (record {
         point = (l.each G T N).stands.point;
@@ -89,7 +85,7 @@ module _ {table plan cells : List ℕ} {p : Part} {from end : ℕ} where
       → b ≡ from / p.primes.bindings - ((a * p.concretes.bindings + c) * p.inputs.bindings + i) * p.outputs.bindings → OutputAnswers table plan cells p b s₀ s₁ o
       → InOutputs table plan cells p from end a mask c i o s₁
   enter-outputs {a} {mask} {c} {i} {b} {o} {s₀} {s₁} l h e r =
-      step-outputs l.asked (enter-low _ _)
+      step-outputs l.asked (omega arith)
       (λ G T N. stands-in p.outputs.bindings p.primes.bindings ((a * p.concretes.bindings + c) * p.inputs.bindings + i)
       (record {
         point = (l.each G T N).stands.point;
@@ -104,7 +100,7 @@ module _ {table plan cells : List ℕ} {p : Part} {from end : ℕ} where
       → b ≡ from - (((a * p.concretes.bindings + c) * p.inputs.bindings + i) * p.outputs.bindings + o) * p.primes.bindings → AfterAnswers table plan cells p b s₀ s₁ k
       → InAfters table plan cells p from end a mask c i o k s₁
   enter_afters {a} {mask} {c} {i} {o} {b} {k} {s₀} {s₁} l h e r =
-      step-afters l.asked (subst (λ (t : ℕ). from ≤ (((a * p.concretes.bindings + c) * p.inputs.bindings + i) * p.outputs.bindings + o) * p.primes.bindings + t) back (enter-low _ _))
+      step-afters l.asked (subst (λ (t : ℕ). from ≤ (((a * p.concretes.bindings + c) * p.inputs.bindings + i) * p.outputs.bindings + o) * p.primes.bindings + t) back (omega arith))
       (λ G T N. stands-in p.primes.bindings 1 (((a * p.concretes.bindings + c) * p.inputs.bindings + i) * p.outputs.bindings + o)
       (record {
         point = (l.each G T N).stands.point;
@@ -123,7 +119,7 @@ module _ {table plan cells : List ℕ} {p : Part} {from end : ℕ} where
   pub again-abstracts : {a mask c d : ℕ} {s₁ s₂ : List (List ℤ)} → from / per_abstract p ≤ a → InConcretes table plan cells p from end a mask c s₁ → p.concretes.bindings ≤ c
       → OpenAbstract table plan cells p (a + 1) s₁ s₂ d → InAbstracts table plan cells p from end d s₂
   again-abstracts {a} {mask} {c} low l h r =
-      step-abstracts l.asked (next (from / per_abstract p) a low)
+      step-abstracts l.asked (omega (arith, low))
       (λ G T N. record {
         point = (l.each G T N).stands.point;
         shows = (l.each G T N).stands.shows;
@@ -132,9 +128,6 @@ module _ {table plan cells : List ℕ} {p : Part} {from end : ℕ} where
         past = past_same (ap (λ (t : ℕ). t * per_abstract p) (sym (no_outer p.abstracts.bindings (a + 1)))) (past-leave p.concretes.bindings (per_concrete p) a c h l.high (l.each G T N).stands.past);
       })
       r
-    where
-      next : (u a : ℕ) → u ≤ a → u ≤ a + 1
-      next u a g = omega arith
 
   pub again-concretes : {a mask c i d mark : ℕ} {m : Masks} {s₀ s₁ s₂ : List (List ℤ)} → InConcretes table plan cells p from end a mask c s₀
       → InInputs table plan cells p from end a mask c i s₁ → p.inputs.bindings ≤ i → mark ≡ key_in cells (pair_group p m) a + 1 → OpenConcrete table plan cells p m mark (c + 1) s₁ s₂ d
@@ -238,11 +231,8 @@ module _ {table plan cells : List ℕ} {p : Part} {from end : ℕ} where
       reached : (na nc ni nq nk a : ℕ) → na ≤ a → end ≤ na * nc * ni * nq * nk → end ≤ a * (nc * (ni * (nq * nk)))
       reached na nc ni nq nk a g m =
           let k : na * (nc * (ni * (nq * nk))) ≤ a * (nc * (ni * (nq * nk))) = native.Mathlib.Nat.mul-le-mul_right (nc * (ni * (nq * nk))) g in
-          let e : na * nc * ni * nq * nk ≡ na * (nc * (ni * (nq * nk))) = regroup na nc ni nq nk in
+          let e : na * nc * ni * nq * nk ≡ na * (nc * (ni * (nq * nk))) = omega arith in
           omega arith
-        where
-          regroup : (a b c d e : ℕ) → a * b * c * d * e ≡ a * (b * (c * (d * e)))
-          regroup a b c d e = omega arith
 
   pub leave-concretes : {a mask c : ℕ} {failing : Option ℕ} {s : List (List ℤ)} → from ≤ end → InConcretes table plan cells p from end a mask c s
       → end ≤ (a * p.concretes.bindings + c) * per_concrete p → failing ≡ None → SweepAnswers table plan cells p from end failing

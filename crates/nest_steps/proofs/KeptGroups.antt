@@ -1,34 +1,17 @@
 -- Which groups keep their values when a search writes others; outputs that the front excludes have no after state; what is asked holds behind a search. Assumes nothing.
 use mathlib.Core.Path.{◌≡◌, sym, ap, ap₂, subst, ◌∙◌}
 use mathlib.Core.Bool.{false}
-use mathlib.Core.Logic.{◌⊎◌, inl, inr, ⊎_elim}
+use mathlib.Core.Logic.{⊎_elim}
 use mathlib.Core.List.{List, [], ◌∷◌, ◌++◌}
 use Prim.Native.Nat.{ℕ, ◌<◌}
 use lib.IntN.{ℤ}
-use Rattle.meaning.specs.Bindings.{Among}
+use Rattle.meaning.proofs.Members.{among-left, among-right, among-append}
 use Rattle.points.specs.Points.{Point, span, number_of, placed, Tame, Beside, Apart, Distinct, no_slots, more_slots}
 use Rattle.points.proofs.PointNumbers.{Counts, number-apart, beside_placed, tame-placed, number-placed}
 use Rattle.points.proofs.SearchLevels.{planned-counts, planned-front, planned-rest, front-false}
 use Rattle.plans.specs.declared.Part.{Part}
 use Rattle.nest_steps.specs.PartTests.{PartTests}
 use Rattle.nest_steps.specs.NestPromises.{Groups, Nest, NestAsked, Stepped, ForNest}
-
-among-left : (s : ℕ) (ss ts : List ℕ) → Among s ss → Among s (ss ++ ts)
-unfolding Among
-among-left s [] ts m = absurd m
-among-left s (t ∷ ss) ts (inl e) = inl e
-among-left s (t ∷ ss) ts (inr m) = inr (among-left s ss ts m)
-
-among-right : (s : ℕ) (ss ts : List ℕ) → Among s ts → Among s (ss ++ ts)
-unfolding Among
-among-right s [] ts m = m
-among-right s (t ∷ ss) ts m = inr (among-right s ss ts m)
-
-among-either : (s : ℕ) (ss ts : List ℕ) → Among s (ss ++ ts) → Among s ss ⊎ Among s ts
-unfolding Among
-among-either s [] ts m = inr m
-among-either s (t ∷ ss) ts (inl e) = inl (inl e)
-among-either s (t ∷ ss) ts (inr m) = ⊎_elim (λ l. inl (inr l)) (λ r. inr r) (among-either s ss ts m)
 
 apart-left : (us ss ts : List ℕ) → Apart us (ss ++ ts) → Apart us ss
 apart-left us ss ts a = record { none = λ s m n. a.none s m (among-left s ss ts n) }
@@ -37,7 +20,7 @@ apart-right : (us ss ts : List ℕ) → Apart us (ss ++ ts) → Apart us ts
 apart-right us ss ts a = record { none = λ s m n. a.none s m (among-right s ss ts n) }
 
 apart-both : (us ss ts : List ℕ) → Apart us ss → Apart us ts → Apart us (ss ++ ts)
-apart-both us ss ts a b = record { none = λ s m n. ⊎_elim (λ l. a.none s m l) (λ r. b.none s m r) (among-either s ss ts n) }
+apart-both us ss ts a b = record { none = λ s m n. ⊎_elim (λ l. a.none s m l) (λ r. b.none s m r) (among-append s ss ts n) }
 
 pub distinct-left : (ss ts : List ℕ) → Distinct (ss ++ ts) → Distinct ss
 distinct-left [] ts d = no_slots

@@ -23,9 +23,6 @@ use Rattle.nest_steps.specs.OpenBlocks.{pair_group, concrete_group, whole_group,
 use Rattle.nest_steps.proofs.PassingBlocks.{no-state, no-related}
 use Rattle.nest_steps.proofs.KeptGroups.{abstracts-concretes}
 
-none : (c e : ℕ) → c ≤ e → e < c → ⊥
-none c e h g = omega arith
-
 less : (n : ℕ) → n < n → ⊥
 less n h = omega arith
 
@@ -70,7 +67,7 @@ module _ {table plan cells : List ℕ} {p : Part} where
         record {
           low = omega arith;
           high = h;
-          past = λ G T δ N s k e l g. absurd (none c e l g);
+          past = λ G T δ N s k e l g. absurd (omega arith);
           left = λ G T δ N s. record { point = δ; shows = s; beside = record { same = λ t _. refl }; number = λ l. absurd (never l) };
         }
 
@@ -141,7 +138,7 @@ module _ {table plan cells : List ℕ} {p : Part} where
         record {
           low = omega arith;
           high = h;
-          past = λ G T N e l g. absurd (none a e l g);
+          past = λ G T N e l g. absurd (omega arith);
           left = λ G T δ N s. record { point = δ; shows = s; beside = record { same = λ t _. refl }; number = λ l. absurd (never l) };
         }
 

@@ -29,8 +29,8 @@ pub(crate) fn key_of(p: &Part, b: Numbers) -> usize
 }
 
 // The mark: the abstract state, where the conclusion depends on it.
-// Form 1: 0 is the mark of nothing. An Option of a mark takes four bytes for two, so that the 128 KiB of marks on the stack of `nest::sweep` would be 256, and the bound that tests/stack
-// measures would go up.
+// Form 1: 0 is the mark of nothing. An Option of a mark takes four bytes for two, and so does one of a `NonZeroU16` as Rattle has it (by `size_of`), so that the 128 KiB of marks on the stack of
+// `nest::sweep` would be 256, and the bound that tests/stack measures would go up.
 pub(crate) fn mark_of(p: &Part, b: Numbers) -> u16
     requires { Inside p.now b }
     ensures { result ≡ mark_of p.now b }

@@ -1,9 +1,9 @@
 // The steps of the nest: the inputs at which the abstract precondition holds, the next of them, and whether a binding passes; in modules the next candidate of each group, the conclusions
 // that are known to be true, and the blocks that pass alike.
 // Form 5: `NestAsked` and `Memo` relate the slots and the memory, which are written, to the search, which is read. In a struct of all three with both as its invariant, each of the ten
-// functions that ask them would promise instead that it leaves the search, and `nest::sweep`, which lends them twelve times, would say in the invariants of its five loops that the
-// search of the struct is still its own. A struct of slots and memory alone can have neither as its invariant: both name arrays of the search. The bound of a candidate is a size of the
-// search's part: a type of numbers with that as its invariant would have to hold it beside each number.
+// functions that ask them would promise instead that it leaves the search, and `nest::sweep`, which lends the slots twelve times and the memory ten times, would say in the invariants of its
+// five loops that the search of the struct is still its own. A struct of slots and memory alone can have neither as its invariant: both name arrays of the search. The bound of a candidate is
+// a size of the search's part: a type of numbers with that as its invariant would have to hold it beside each number.
 #![tactic(auto)]
 
 ghost use Rattle.std.specs.Prelude.{◌<◌, ◌≤◌};

@@ -5,19 +5,14 @@ use Prim.Native.Nat.{ℕ, suc, ◌+◌, ◌*◌}
 use native.Mathlib.Omega.{arith}
 use lib.ListN.{length, length-append}
 use Rattle.lexical.specs.Symbols.{no_ending, Ending}
-use Rattle.form.specs.Tree.{TypeForm, given_type, power_type, range_type, arrow_type, Declaration, declarations, Parameter, State}
+use Rattle.form.specs.Tree.{Declaration, declarations, Parameter, State}
 use Rattle.form.specs.Written.{ending_of}
-use Rattle.form.specs.Codes.{Numbering, type_codes, type_width, declaration_code, declaration_codes, parameter_codes, condition_codes, state_codes}
+use Rattle.form.specs.Codes.{Numbering, type_width, declaration_code, declaration_codes, parameter_codes, condition_codes, state_codes}
+use Rattle.parser.proofs.ItemNodes.{type-length}
 use Rattle.node_spans.specs.Spans.{predicate_at}
 
-type-four : (t : TypeForm) (i : ℕ) (ρ : Numbering) → length (type_codes t i ρ) ≡ 4
-type-four (given_type g) i ρ = refl
-type-four (power_type g) i ρ = refl
-type-four (range_type r) i ρ = refl
-type-four (arrow_type a g h) i ρ = refl
-
 declaration-eight : (i : ℕ) (e : Ending) (x : Declaration) (ρ : Numbering) → length (declaration_code i e x ρ) ≡ 8
-declaration-eight i e x ρ = let l = type-four x.type (i + 2) ρ in omega arith
+declaration-eight i e x ρ = let l = type-length x.type (i + 2) ρ in omega arith
 
 pub declarations-long : (i : ℕ) (ds : List Declaration) (ρ : Numbering) → length (declaration_codes i ds ρ) ≡ 8 * length ds
 unfolding declaration_codes

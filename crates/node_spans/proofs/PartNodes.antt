@@ -10,14 +10,11 @@ use Rattle.form.specs.Codes.{node, Numbering, number_of_name, declaration_codes,
 use Rattle.lexical.specs.Symbols.{no_ending}
 use Rattle.parser.specs.Sections.{size_of, size_at, SectionsOf, abstract_from, concrete_from, operations_from}
 use Rattle.parser.specs.declared.sections.Bounds.{Bounds}
-use Rattle.parser.proofs.ItemNodes.{Split, split-next, split-as, split-length, size-here, items-run, declarations-items, parameters-items, condition-above, above, ItemAt, condition-at}
+use Rattle.parser.proofs.ItemNodes.{Split, split-next, split-as, split-length, size-here, items-run, declarations-items, parameters-items, condition-above, above, condition-at}
 use Rattle.parser.proofs.PartPlaces.{from_concrete, from_ainit, at-abstract, at-operations, Laid, laid, of_array}
 use Rattle.node_spans.specs.Spans.{operation_spans, spans_of, predicate_at, Spanned}
-use Rattle.node_spans.specs.SpanPromises.{Filled, Three, Item, Declared, StatePut, OperationsIn, no_operation, an_operation, Ahead, OperationsPut}
+use Rattle.node_spans.specs.SpanPromises.{Filled, Three, Declared, StatePut, OperationsIn, no_operation, an_operation, Ahead, OperationsPut}
 use Rattle.node_spans.proofs.Structure.{at-concrete}
-
-item_of : {t : List ℕ} {m i e : ℕ} → ItemAt t m i e → Item t m i e
-item_of x = record { room = x.room; size = x.size; inside = x.inside }
 
 -- a state's heading and its declarations
 pub state-declared : {c : List ℕ} {n : ℕ} (i : ℕ) (s : State) (ρ : Numbering) (q : List ℕ) → Split c n (state_codes i s ρ ++ q)
@@ -59,8 +56,8 @@ operations_in {c} n i (o ∷ os) ρ w =
         heading = record { room = omega arith; size = omega arith; inside = omega arith };
         declared = items-run (parameters-items (i + 2) o.parameters ρ) (A ++ (C ++ R)) w₁ (above 7 6 6 (A ++ (C ++ R)) (condition-above j o.abstractly ρ (C ++ R)) (omega arith));
       };
-      abstractly = item_of (condition-at j o.abstractly ρ (C ++ R) w₂);
-      concretely = item_of (condition-at (suc j + pred_width o.abstractly) o.concretely ρ R w₃);
+      abstractly = condition-at j o.abstractly ρ (C ++ R) w₂;
+      concretely = condition-at (suc j + pred_width o.abstractly) o.concretely ρ R w₃;
     })
     (operations_in f (i + operation_length o) os ρ w₄)
 

@@ -1,12 +1,13 @@
 -- Numbers are written one behind the other, and places are found: what the functions of this crate count on.
-use mathlib.Core.Path.{◌≡◌, sym, ap, ◌∙◌, subst}
+use mathlib.Core.Path.{◌≡◌, refl, sym, ap, ◌∙◌, subst}
 use mathlib.Core.List.{List, [], ◌∷◌, ◌++◌, append_assoc, append-nil}
 use Prim.Native.Nat.{ℕ, suc, ◌+◌, ◌-◌, ◌*◌, ◌≤◌, ◌<◌}
 use native.Mathlib.Omega.{arith}
 use lib.ListN.{length, take, drop, get_or, set, length-append, length-drop}
 use lib.Seq.{set-append_seam, drop-cons}
-use Rattle.parser.specs.Sections.{Run, Skips, RunsTo}
-use Rattle.node_spans.specs.SpanPromises.{Filled, NumberPut, Three, Item, Declared, StatePut, OperationPut, OperationsIn, no_operation, an_operation, Ahead}
+use Rattle.parser.specs.Sections.{Skips, RunsTo}
+use Rattle.parser.proofs.PartPlaces.{item-is, run_is}
+use Rattle.node_spans.specs.SpanPromises.{Filled, NumberPut, Three, Declared, StatePut, OperationPut, OperationsIn, no_operation, an_operation, Ahead}
 
 -- a number in the place behind w
 fills : {n x : ℕ} {s s' : List ℕ} → NumberPut n x s s' → n < length s → (s₀ w : List ℕ) → x ≤ 65535 → n ≡ length w → Filled s₀ s w → Filled s₀ s' (w ++ (x ∷ []))
@@ -40,17 +41,6 @@ three {n} {x} {y} {z} {s} {s₁} {s₂} {s₃} p q r l =
           subst (λ (l : List ℕ). Filled s₀ s₃ l) (append_assoc (w ++ (x ∷ [])) (y ∷ []) (z ∷ []) ∙ append_assoc w (x ∷ []) (y ∷ z ∷ [])) t;
     }
 
--- what `skip` answers at one item, and `run` behind a heading
-pub item-place : {a : List ℕ} {m i e r : ℕ} → Item (take m a) m i e → Skips a m i r → r ≡ e
-item-place x s =
-    let l = x.room in
-    let k = x.size in
-    let h = x.inside in
-    s.exact (omega arith) (omega arith) ∙ k
-
-pub next-item : {a : List ℕ} {m i j e r : ℕ} → Item (take m a) m i e → j ≡ i → Skips a m j r → r ≡ e
-next-item {a} {m} {i} {j} {e} {r} x p s = item-place x (subst (λ (y : ℕ). Skips a m y r) p s)
-
 -- the place of the declarations' end, and that it is inside
 pub record Ends (m r b : ℕ) : Type 0 where
   pub is : r ≡ b
@@ -58,9 +48,9 @@ pub record Ends (m r b : ℕ) : Type 0 where
 
 pub declared-end : {a : List ℕ} {m i b c first last : ℕ} → Declared (take m a) m i b c → Skips a m i first → (first ≤ m → RunsTo a m 6 6 first last) → Ends m last c
 declared-end {a} {m} {i} {b} {c} {first} {last} x s r =
-    let e : first ≡ b = item-place x.heading s in
+    let e : first ≡ b = item-is x.heading refl s.exact in
     let t : RunsTo a m 6 6 first last = r s.within in
-    record { is = t.exact c (subst (λ (y : ℕ). Run (take m a) m 6 6 y c) (sym e) x.declared); inside = t.within }
+    record { is = run_is x.declared e t.exact; inside = t.within }
 
 pub state-put : {a : List ℕ} {m from to n first last : ℕ} {s s' : List ℕ} → Skips a m from first → (first ≤ m → RunsTo a m 6 6 first last) → Three n first last to s s'
     → StatePut (take m a) m from to n s s'
@@ -69,7 +59,7 @@ state-put {a} {m} {from} {to} {n} {first} {last} {s} {s'} p q r =
       same = r.same;
       fills =
           λ s₀ w b c h l e x f.
-          let u : first ≡ b = item-place x.heading p in
+          let u : first ≡ b = item-is x.heading refl p.exact in
           let v : Ends m last c = declared-end x p q in
           let i = v.inside in
           let j = p.within in
@@ -84,13 +74,13 @@ operation-put {a} {m} {from} {n} {first} {last} {middle} {end} {s} {s₁} {s₂}
     let same = y.same in
     record {
       same = z.same ∙ y.same;
-      behind = λ b c e f x. next-item x.concretely (next-item x.abstractly (declared-end x.parameters p q).is g) h;
+      behind = λ b c e f x. item-is x.concretely (item-is x.abstractly (declared-end x.parameters p q).is g.exact) h.exact;
       fills =
           λ s₀ w b c e f l k x i.
-          let u₁ : first ≡ b = item-place x.parameters.heading p in
+          let u₁ : first ≡ b = item-is x.parameters.heading refl p.exact in
           let v : Ends m last c = declared-end x.parameters p q in
-          let u₃ : middle ≡ e = next-item x.abstractly v.is g in
-          let u₄ : end ≡ f = next-item x.concretely u₃ h in
+          let u₃ : middle ≡ e = item-is x.abstractly v.is g.exact in
+          let u₄ : end ≡ f = item-is x.concretely u₃ h.exact in
           let j = v.inside in
           let j₁ = p.within in
           let j₂ = g.within in

@@ -1,10 +1,11 @@
 -- A list that stands among numbers: how long it is, where its two parts stand, and each number of it.
-use mathlib.Core.Path.{◌≡◌, refl, sym, ap, ◌∙◌}
+use mathlib.Core.Path.{◌≡◌, refl, sym, ap, subst, ◌∙◌}
 use mathlib.Core.List.{List, ◌++◌}
 use Prim.Native.Nat.{ℕ, ◌+◌, ◌-◌, ◌<◌}
 use native.Mathlib.Omega.{arith}
 use lib.ListN.{length, take, drop, get_or, length-append, length-drop}
 use lib.Seq.{length-take-le, take-take, take-append_seam, take-add, drop_at, drop-drop, get_or-append-add, get_or-take, get_or-drop}
+use Rattle.parser.specs.Sections.{PartOf}
 use Rattle.node_spans.specs.Spans.{Stands}
 
 pub stands-length : {t : List ℕ} {from end : ℕ} {x : List ℕ} → Stands t from end x → end ≡ from + length x
@@ -59,3 +60,10 @@ stands_at {t} {from} {end} x y j n s h e =
     ap (λ (i : ℕ). get_or t i 0) e ∙ sym (get_or-drop from t (length x + j) 0)
     ∙ sym (get_or-take (end - from) (drop from t) (length x + j) 0 (omega arith))
     ∙ ap (λ (z : List ℕ). get_or z (length x + j) 0) s.stands ∙ get_or-append-add x y j 0
+
+-- what is read between two places: the list that stands there
+pub part-stands : (nodes : List ℕ) (from to : ℕ) (code l : List ℕ) → PartOf nodes from to code → Stands nodes from to l → code ≡ l
+part-stands nodes from to code l p s = p.part s.ordered s.inside ∙ s.stands
+
+pub part-read : (nodes : List ℕ) (a a' b b' : ℕ) (r : List ℕ) → a ≡ a' → b ≡ b' → PartOf nodes a b r → PartOf nodes a' b' r
+part-read nodes a a' b b' r p q s = subst (λ (m : ℕ). PartOf nodes a' m r) q (subst (λ (m : ℕ). PartOf nodes m b r) p s)

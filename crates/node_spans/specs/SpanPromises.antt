@@ -1,6 +1,6 @@
 -- What the functions promise each other. Nothing here need be believed.
 use Rattle.std.specs.Prelude.{◌≡◌, List, [], ◌∷◌, ◌++◌, ℕ, suc, ◌+◌, ◌*◌, ◌≤◌, length, drop, set}
-use Rattle.parser.specs.Sections.{size_at, Run}
+use Rattle.parser.specs.Sections.{ItemAt, Run}
 
 -- the numbers w are written in front of s₀, and what stood behind them stays
 pub record Filled (s₀ s w : List ℕ) : Type 0 where
@@ -15,21 +15,15 @@ pub record Three (n x y z : ℕ) (s s' : List ℕ) : Type 0 where
   pub same : length s' ≡ length s
   pub fills : (s₀ w : List ℕ) → x ≤ 65535 → y ≤ 65535 → z ≤ 65535 → n ≡ length w → Filled s₀ s w → Filled s₀ s' (w ++ (x ∷ y ∷ z ∷ []))
 
--- one item from i up to e
-pub record Item (t : List ℕ) (m i e : ℕ) : Type 0 where
-  pub room : i + 4 ≤ m
-  pub size : i + size_at t i ≡ e
-  pub inside : e ≤ m
-
 -- a heading from i up to a, and then declarations up to b
 pub record Declared (t : List ℕ) (m i a b : ℕ) : Type 0 where
-  pub heading : Item t m i a
+  pub heading : ItemAt t m i a
   pub declared : Run t m 6 6 a b
 
 pub record OperationIn (t : List ℕ) (m i a b e f : ℕ) : Type 0 where
   pub parameters : Declared t m i a b
-  pub abstractly : Item t m b e
-  pub concretely : Item t m e f
+  pub abstractly : ItemAt t m b e
+  pub concretely : ItemAt t m e f
 
 pub record StatePut (t : List ℕ) (m from to n : ℕ) (s s' : List ℕ) : Type 0 where
   pub same : length s' ≡ length s

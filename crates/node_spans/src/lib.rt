@@ -6,12 +6,14 @@
 #![tactic(auto)]
 
 ghost use Rattle.std.specs.Prelude.{◌≡◌, ◌+◌, ◌*◌, ◌≤◌, ◌<◌, length, take};
+ghost use Rattle.parser.specs.Sections.{PartOf};
 ghost use Rattle.node_spans.specs.Spans.{Spanned, span};
 ghost use Rattle.node_spans.specs.SpanPromises.{NumberPut, Three, StatePut, OperationPut, OperationsPut};
 
 use form::shapes::DECLARED;
 use lexical::classes::at_or;
 use parser::sections::Nodes;
+pub use parser::sections::{States, between};
 
 pub mod span;
 
@@ -41,9 +43,36 @@ impl<'a> Parts<'a> {
         ensures last { result.last ≡ span self.now.spans.now (9 + 4 * k + 1) }
         ensures middle { result.middle ≡ span self.now.spans.now (9 + 4 * k + 2) }
         ensures end { result.end ≡ span self.now.spans.now (9 + 4 * k + 3) }
+        ensures small { (result.first < 65536) × (result.last < 65536) }
     {
         let spans = self.spans;
         operation_spans(spans, k)
+    }
+
+    // The nodes of the variables of the state whose numbers stand from the span k on.
+    pub fn variables(&self, k: usize) -> &'a [u16]
+        requires { k < 80 }
+        ensures { PartOf self.now.nodes.now (span self.now.spans.now k) (span self.now.spans.now (k + 1)) result.now }
+    {
+        between(self.nodes, self.span(k), self.span(k + span::STATE_LAST))
+    }
+
+    // The nodes of the variables of both states.
+    pub fn states(&self) -> States<'a>
+        ensures abstracts { PartOf self.now.nodes.now (span self.now.spans.now 0) (span self.now.spans.now 1) result.abstracts.now }
+        ensures concretes { PartOf self.now.nodes.now (span self.now.spans.now 3) (span self.now.spans.now 4) result.concretes.now }
+    {
+        States {
+            abstracts: self.variables(span::ABSTRACT_FIRST),
+            concretes: self.variables(span::CONCRETE_FIRST),
+        }
+    }
+
+    // The nodes of an operation's parameters.
+    pub fn parameters(&self, o: &OperationSpans) -> &'a [u16]
+        ensures { PartOf self.now.nodes.now o.now.first o.now.last result.now }
+    {
+        between(self.nodes, o.first, o.last)
     }
 }
 
@@ -70,6 +99,7 @@ pub fn operation_spans(spans: &[u16], k: usize) -> OperationSpans
     ensures last { result.last ≡ span spans.now (9 + 4 * k + 1) }
     ensures middle { result.middle ≡ span spans.now (9 + 4 * k + 2) }
     ensures end { result.end ≡ span spans.now (9 + 4 * k + 3) }
+    ensures small { (result.first < 65536) × (result.last < 65536) }
 {
     let at = span::of_operation(k);
     OperationSpans {

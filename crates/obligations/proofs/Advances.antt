@@ -5,7 +5,7 @@ use mathlib.Core.List.{List, []}
 use Prim.Native.Nat.{ℕ, suc, ◌+◌, ◌-◌, ◌<◌, ◌≤◌, min}
 use native.Mathlib.Omega.{arith}
 use lib.ListN.{length, get_or, take, drop, length-take, length-drop}
-use Rattle.meaning.proofs.Places.{at-taken, at-dropped}
+use lib.Seq.{get_or-take, get_or-drop}
 use Rattle.obligations.specs.Subjects.{Subject}
 use Rattle.obligations.specs.Order.{Check, initialises, passes, checks, total, Look, look}
 use Rattle.obligations.specs.Report.{check_at}
@@ -24,7 +24,7 @@ pub next-at : (σ : Subject) (p n r : ℕ) → r < length (next_checks σ p n) �
 unfolding check_at
 next-at σ p n r h =
     let l : r < n = omega (arith, next-length σ p n) in
-    at-taken n (drop p (checks σ)) r (initialises []) l ∙ at-dropped p (checks σ) r (initialises [])
+    get_or-take n (drop p (checks σ)) r (initialises []) l ∙ get_or-drop p (checks σ) r (initialises [])
 
 -- the next checks up to the m-th pass where those at the places up to p + m do
 pass-next : (σ : Subject) (p n m : ℕ) → m ≤ length (next_checks σ p n) → PassBetween σ p (p + m) → PassUpTo σ (initialises []) (next_checks σ p n) m

@@ -4,7 +4,7 @@ use mathlib.Core.Bool.{false}
 use Prim.Native.Nat.{ℕ, zero, suc, ◌+◌, ◌*◌, ◌≤◌, ◌<◌}
 use native.Mathlib.Omega.{arith}
 use native.Mathlib.Decide.{dec_lt}
-use Rattle.lexical.proofs.BooleanTests.{and-left-false, and-right-false}
+use Rattle.std.proofs.lemmas.Bool.{and_left as and-left-false, and_right as and-right-false}
 use Rattle.form.specs.Tree.{Dossier}
 use Rattle.meaning.specs.Meaning.{Binding}
 use Rattle.meaning.specs.Operations.{is_state, related}

@@ -7,12 +7,13 @@ use native.Mathlib.Nat.{zero-add, add-zero}
 use native.Mathlib.Omega.{arith}
 use lib.Arith.{digits_lt}
 use lib.ListN.{length, get_or, get_elem?, length-append, length-map, get_or-append}
+use lib.Seq.{get_or-append-add}
 use Rattle.form.specs.Tree.{Operation, Dossier}
 use Rattle.static_rules.specs.Scope.{inputs}
 use Rattle.meaning.specs.Meaning.{Binding}
 use Rattle.meaning.specs.Bindings.{bindings}
 use Rattle.meaning.specs.Operations.{abstract_bindings, concrete_bindings, output_bindings}
-use Rattle.meaning.proofs.Places.{at_right, at_map, at-flat, length-flat}
+use Rattle.meaning.proofs.Places.{at_map, at-flat, length-flat}
 use Rattle.obligations.specs.Subjects.{Subject}
 use Rattle.obligations.specs.Order.{Check, initialises, applies, corrects, applicability_checks, correctness_checks, operation_checks, opening, checks, total}
 use Rattle.obligations.specs.Report.{check_at}
@@ -152,7 +153,7 @@ module _ (d : Dossier) where
       let s : applicability_size x + correctness_size x + size_of_first j ops + q ≡ length (block_of d k x) + (size_of_first j ops + q) = omega (arith, length-block k x) in
       let t : suc k + j ≡ k + suc j = omega arith in
       ap (λ (i : ℕ). get_or (operation_checks d k (x ∷ ops)) i z) s
-      ∙ at_right (block_of d k x) (operation_checks d (suc k) ops) (size_of_first j ops + q) z
+      ∙ get_or-append-add (block_of d k x) (operation_checks d (suc k) ops) (size_of_first j ops + q) z
       ∙ operation-at (suc k) j op ops e q z h
       ∙ ap (λ (i : ℕ). get_or (block_of d i op) q z) t
 
@@ -192,7 +193,7 @@ module _ (σ : Subject) where
   block-place j op e q h =
       let s : start_of j + q ≡ length (opening σ) + (size_of_first σ.dossier j σ.dossier.operations + q) = omega arith in
       ap (check_at σ) s
-      ∙ at_right (opening σ) (operation_checks σ.dossier 0 σ.dossier.operations) (size_of_first σ.dossier j σ.dossier.operations + q) (initialises [])
+      ∙ get_or-append-add (opening σ) (operation_checks σ.dossier 0 σ.dossier.operations) (size_of_first σ.dossier j σ.dossier.operations + q) (initialises [])
       ∙ operation-at σ.dossier 0 j op σ.dossier.operations e q (initialises []) h
       ∙ ap (λ (i : ℕ). get_or (block_of σ.dossier i op) q (initialises [])) (zero-add j)
 
@@ -209,7 +210,7 @@ module _ (σ : Subject) where
       let t : applicability_size σ.dossier op + q ≡ length (applicability_checks σ.dossier j op) + q = omega (arith, length-applicability σ.dossier j op) in
       ap (check_at σ) s ∙ block-place j op e (applicability_size σ.dossier op + q) (omega arith)
       ∙ ap (λ (i : ℕ). get_or (block_of σ.dossier j op) i (initialises [])) t
-      ∙ at_right (applicability_checks σ.dossier j op) (correctness_checks σ.dossier j op) q (initialises [])
+      ∙ get_or-append-add (applicability_checks σ.dossier j op) (correctness_checks σ.dossier j op) q (initialises [])
 
   -- each operation begins where the one before it ends, and the last ends where the check does
   pub start-next : (j : ℕ) (op : Operation) → get_elem? σ.dossier.operations j ≡ some op → start_of (suc j) ≡ start_of j + (applicability_size σ.dossier op + correctness_size σ.dossier op)

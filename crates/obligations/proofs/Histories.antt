@@ -18,7 +18,8 @@ use Rattle.obligations.specs.Machines.{abstract_side, concrete_side}
 use Rattle.obligations.specs.Runs.{RunsMatch}
 use Rattle.obligations.specs.CallDemands.{IsRefusal, whole_count, whole_fails, verdict_by, verdict_after, Proper, Loaded, none, text, after_reply, after_call, last_loaded, Meant, Reached}
 use Rattle.obligations.specs.Demands.{acceptance, Demand3}
-use Rattle.lexical.proofs.BooleanTests.{on-cond, or-false}
+use Rattle.std.proofs.lemmas.Bool.{or_parts}
+use Rattle.lexical.proofs.BooleanTests.{on-cond}
 use Rattle.obligations.proofs.Accuracy.{accurate}
 use Rattle.obligations.proofs.Strides.{advances, count-positive}
 use Rattle.obligations.proofs.PlainCalls.{loads}
@@ -62,7 +63,7 @@ advance-sound σ p n l s = go (eqb n 0 || ltb 1000000000 n) refl
     go : (t : Bool) → (eqb n 0 || ltb 1000000000 n) ≡ t → Sound (respond (holding σ p unfinished) (advance n)).held l
     go true e = subst (λ (h : Held). Sound h l) (sym (demand_1.unchanged (holding σ p unfinished) (advance n) (out_of_range σ p n e)).0) s
     go false e =
-        let f : (eqb n 0 ≡ false) × (ltb 1000000000 n ≡ false) = or-false (eqb n 0) (ltb 1000000000 n) e in
+        let f : (eqb n 0 ≡ false) × (ltb 1000000000 n ≡ false) = or_parts (eqb n 0) (ltb 1000000000 n) e in
         let k : n ≡ 0 → ⊥ = eqb-false n 0 f.0 in
         subst (λ (o : Outcome). Sound o.held l) (sym (advances σ p n s.1 (omega arith) (ltb-false 1000000000 n f.1))) (s.0, proper-after σ p n s.1)
 

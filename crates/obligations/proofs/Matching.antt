@@ -10,7 +10,8 @@ use Rattle.meaning.proofs.Bindings.{binding-found, binding-put}
 use Rattle.obligations.specs.Machines.{Machine, Relation, SameOperations, pre}
 use Rattle.obligations.specs.Obligations.{Refines, initialisation_at, applicability_at, correctness_at}
 use Rattle.obligations.specs.Runs.{Entry, IsEntry, Entries, Outcome, Initial, Step, Pre, Path, last, Run, Meets, Related, Alike, Beside, MachinesMatch}
-use Rattle.lexical.proofs.BooleanTests.{and_both, and_left, and_right}
+use Rattle.std.proofs.lemmas.Bool.{and_from}
+use Rattle.lexical.proofs.BooleanTests.{and_left, and_right}
 use Rattle.obligations.proofs.GivesLaws.{gives-use}
 
 -- the last state of a run is over the carriers, and the last states of runs beside each other are related
@@ -68,7 +69,7 @@ module _ (A C : Machine) (R : Relation) (same : SameOperations A C) (ob : Refine
       let x : (a' : Binding) × Over A.variables a' × ((R a' h.state && A.allows e.operation a e.input h.output a') ≡ true)
       = binding-found (λ (a' : Binding). R a' h.state && A.allows e.operation a e.input h.output a') A.variables
       (gives-use _ _ (ob.correctness e.operation k.listed a c e.input h.output h.state la lc k.carried st.output_carried st.carried)
-      (and_both (and_both (pre-test A e a pre) r) st.allowed)) in (
+      (and_from _ _ (and_from _ _ (pre-test A e a pre) r) st.allowed)) in (
         record { output = h.output; state = x.0 },
         record { output_carried = subst (λ (vs : List Variable). Over vs h.output) (sym (same.produced e.operation)) st.output_carried; carried = x.1; allowed = and_right (R x.0 h.state) _ x.2 },
         refl,
@@ -80,7 +81,7 @@ module _ (A C : Machine) (R : Relation) (same : SameOperations A C) (ob : Refine
       → Related R a c → Pre A e a → pre C e.operation c e.input ≡ true
   unfolding applicability_at
   applies e k a c la lc r pre =
-      gives-use _ _ (ob.applicability e.operation k.listed a c e.input la lc k.carried) (and_both (pre-test A e a pre) r)
+      gives-use _ _ (ob.applicability e.operation k.listed a c e.input la lc k.carried) (and_from _ _ (pre-test A e a pre) r)
 
   -- initialisation: an abstract beginning beside each concrete one
   begin : (c : Binding) → Initial C c → (a : Binding) × (Initial A a × Related R a c)

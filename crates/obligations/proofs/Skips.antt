@@ -18,7 +18,7 @@ use Rattle.obligations.specs.Machines.{pre, abstract_side}
 use Rattle.obligations.specs.Obligations.{applicability_at, correctness_at}
 use Rattle.obligations.specs.Order.{Check, initialises, applies, corrects, passes}
 use Rattle.obligations.specs.Report.{check_at}
-use Rattle.lexical.proofs.BooleanTests.{and-left-false, and-right-false}
+use Rattle.std.proofs.lemmas.Bool.{and_left as and-left-false, and_right as and-right-false}
 use Rattle.obligations.proofs.OperationTests.{abstract-pre-at}
 use Rattle.obligations.proofs.GivesLaws.{gives-vacuous}
 use Rattle.obligations.proofs.Groups.{applies_at, corrects_by, corrects_at, every-applies-at, every-corrects-by, every-corrects-at}

@@ -1,8 +1,7 @@
 -- Operators by their codes: what the last arm of a match is, and what settles a connective. Assumes nothing.
 use mathlib.Core.Path.{◌≡◌, refl, sym, ap, subst, ◌∙◌}
-use mathlib.Core.Bool.{Bool, true, false, not, ◌||◌}
+use mathlib.Core.Bool.{Bool, true, false, not, ◌||◌, false≢true}
 use Prim.Native.Nat.{ℕ, ◌%◌, ◌<◌, ◌≤◌}
-use native.Mathlib.Omega.{arith}
 use lib.Dec.{eqb}
 use lib.IntN.{ℤ, pos, neg_ℤ}
 use lib.Signed.{le_z}
@@ -44,18 +43,15 @@ connective-last code false q h i j = rw (connected, ne_eqb code 51 h, ne_eqb cod
 
 -- ---- connectives: and, or, =>
 
-clash : {A : Type 0} → false ≡ true → A
-clash e = absurd (let z : ◌≡◌ {A = ℕ} 0 1 = cc in omega arith)
-
 pub implies-settled : (p q : Bool) → not p ≡ true → not p ≡ connected 26 p q
 unfolding connected
-implies-settled true q e = clash e
+implies-settled true q e = absurd (false≢true e)
 implies-settled false q e = refl
 
 pub implies_open : (p q : Bool) → not p ≡ false → q ≡ connected 26 p q
 unfolding connected
 implies_open true q e = refl
-implies_open false q e = clash (sym e)
+implies_open false q e = absurd (false≢true (sym e))
 
 -- the left part settles it
 abbrev pub Settled : (code : ℕ) (p : Bool) → Type 0
@@ -63,21 +59,21 @@ Settled code p = (q : Bool) → connected code p q ≡ connected code p false
 
 pub and-settled : (p : Bool) → not p ≡ true → Settled 51 p
 unfolding connected
-and-settled true e q = clash e
+and-settled true e q = absurd (false≢true e)
 and-settled false e q = refl
 
 pub or-settled : (p : Bool) → p ≡ true → Settled 52 p
 unfolding connected
 or-settled true e q = refl
-or-settled false e q = clash e
+or-settled false e q = absurd (false≢true e)
 
 pub implies-done : (p : Bool) → not p ≡ true → Settled 26 p
 unfolding connected
-implies-done true e q = clash e
+implies-done true e q = absurd (false≢true e)
 implies-done false e q = refl
 
 pub nothing-settled : (code : ℕ) (p : Bool) → false ≡ true → Settled code p
-nothing-settled code p e q = clash e
+nothing-settled code p e q = absurd (false≢true e)
 
 -- ---- div and mod
 

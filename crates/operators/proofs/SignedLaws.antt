@@ -124,7 +124,7 @@ module _ (x : ℤ) (f : SFits w64 x) (a : Small x) where
 pub of_16 : (n : ℕ) → Fits w16 n → to_z w64 n ≡ pos n
 of_16 n f = to_z_pos w64 {n = n} (lt_of_lt_of_le f.fits (lit≤ tt))
 
-widened : (n : ℕ) {z : ℤ} → Fits w16 n → z ≡ pos n → to_z w64 (of_z w64 z) ≡ pos n
+pub widened : (n : ℕ) {z : ℤ} → Fits w16 n → z ≡ pos n → to_z w64 (of_z w64 z) ≡ pos n
 widened n f e = ap (λ (v : ℤ). to_z w64 (of_z w64 v)) e ∙ of_16 n f
 
 module _ (n : ℕ) {z : ℤ} (f : Fits w16 n) (e : z ≡ pos n) where
@@ -170,6 +170,7 @@ module _ (m : ℕ) (x y : ℤ) {z : ℤ} (l : Fits w16 m) (e : z ≡ pos m) (f :
 
 -- ---- one of the n numbers from a low one on
 
+-- Form 8: the library's law of this is private.
 below-as : (p q : Bool) → is_lt (cond p Less (cond q Greater Equal)) ≡ p
 below-as true q = refl
 below-as false true = refl

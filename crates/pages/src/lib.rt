@@ -4,6 +4,7 @@
 ghost use Rattle.std.specs.Prelude.{◌≡◌, []};
 ghost use Rattle.pages.specs.PagePromises.{with_item, plain, bound};
 
+use bounded_texts::Bounded;
 use std::marker::Model;
 
 // How many items there may be.
@@ -33,7 +34,7 @@ pub struct Counts {
 
 // A phrase, an operation, two numbers, and numbers of bindings.
 // Form 1: an item takes any number as its phrase (phrases/src/words.rt); an enum would narrow a public field.
-#[derive(Clone, Copy)]
+#[derive(Clone, Copy, Default)]
 pub struct Item {
     pub phrase: usize,
     pub operation: usize,
@@ -55,23 +56,19 @@ pub fn plain(phrase: usize, operation: usize, n: usize, m: usize) -> Item
     }
 }
 
-// The first `count` items are those that are said.
-// Form 6: as `bounded_texts::BoundedText`: without a heap `new` and `add` cannot fail.
+// The items that are said.
 #[derive(Drop)]
 pub struct Page {
-    items: [Item; ITEMS],
-    count: usize,
+    items: Bounded<Item, ITEMS>,
 }
 
 impl Model for Page {
-    ghost use Rattle.std.specs.Prelude.{List, take, ◌≤◌};
+    ghost use Rattle.std.specs.Prelude.{List};
     ghost use Rattle.pages.specs.declared.Item.{Item};
 
     ghost Value = { List Item };
 
-    ghost view = { λ p. take p.count p.items };
-
-    ghost invariant = { λ p. p.count ≤ 400 };
+    ghost view = { λ p. p.items };
 }
 
 impl Page {
@@ -79,8 +76,7 @@ impl Page {
         ensures { result ≡ [] }
     {
         Page {
-            items: [plain(0, 0, 0, 0); ITEMS],
-            count: 0,
+            items: Bounded::new(),
         }
     }
 
@@ -88,16 +84,13 @@ impl Page {
     pub fn items(&self) -> &[Item]
         ensures { result.now ≡ self.now }
     {
-        &self.items[..self.count]
+        self.items.as_slice()
     }
 
     pub fn add(&mut self, e: Item)
         ensures { self.new ≡ with_item self.old e }
     {
-        if self.count < ITEMS {
-            self.items[self.count] = e;
-            self.count += 1;
-        }
+        self.items.put(e);
     }
 
     // A phrase alone.

@@ -4,6 +4,7 @@ use mathlib.Core.List.{List, [], ◌∷◌, ◌++◌, append_assoc, append-nil}
 use Prim.Native.Nat.{ℕ, zero, suc, ◌+◌, ◌-◌, ◌≤◌, ◌<◌}
 use native.Mathlib.Omega.{arith}
 use lib.ListN.{length, take, drop, get_or, length-append, take-append-drop}
+use lib.Seq.{length-take-le, take-take}
 use Rattle.lexical.specs.Kinds.{Kind, code_of}
 use Rattle.lexical.specs.Symbols.{Symbol}
 use Rattle.refusals.specs.Refusals.{no_dossier}
@@ -20,11 +21,6 @@ use Rattle.form_nodes.proofs.ReadParts.{as_long, run-at, run_end, next}
 use Rattle.form_nodes.proofs.NodesOfParts.{from}
 use Rattle.form_nodes.proofs.FirstNodes.{then-written}
 
-take-length : (m : ℕ) (b : List ℕ) → m ≤ length b → length (take m b) ≡ m
-take-length zero b l = refl
-take-length (suc m) [] l = absurd (omega arith)
-take-length (suc m) (x ∷ b) l = ap suc (take-length m b (omega arith))
-
 take-nothing : (j : ℕ) → take {A = ℕ} j [] ≡ []
 take-nothing zero = refl
 take-nothing (suc j) = refl
@@ -40,12 +36,6 @@ take_less (suc n) zero a x h l = absurd (omega arith)
 take_less (suc n) (suc k) [] x h l = absurd (omega arith)
 take_less (suc n) (suc k) (y ∷ a) x h l = ap (λ (z : List ℕ). y ∷ z) (take_less n k a x (omega arith) (omega arith))
 
-take_twice : (n m : ℕ) (b : List ℕ) → n ≤ m → take n (take m b) ≡ take n b
-take_twice zero m b h = refl
-take_twice (suc n) zero b h = absurd (omega arith)
-take_twice (suc n) (suc m) [] h = refl
-take_twice (suc n) (suc m) (y ∷ b) h = ap (λ (z : List ℕ). y ∷ z) (take_twice n m b (omega arith))
-
 drop_of_take : (k m j : ℕ) (b : List ℕ) → k + j ≡ m → drop k (take m b) ≡ take j (drop k b)
 drop_of_take zero m j b e = let f : m ≡ j = omega arith in ap (λ (i : ℕ). take i b) f
 drop_of_take (suc k) zero j b e = absurd (omega arith)
@@ -55,17 +45,17 @@ drop_of_take (suc k) (suc m) j (y ∷ b) e = drop_of_take k m j b (omega arith)
 -- how many numbers are written
 pub long-written : (k m : ℕ) (a b x : List ℕ) → take m b ≡ take k a ++ x → k ≤ length a → m ≤ length b → k + length x ≡ m
 long-written k m a b x e l h =
-    ap (λ (z : ℕ). z + length x) (sym (take-length k a l)) ∙ sym (length-append (take k a) x) ∙ sym (ap (λ (z : List ℕ). length z) e) ∙ take-length m b h
+    ap (λ (z : ℕ). z + length x) (sym (length-take-le k a l)) ∙ sym (length-append (take k a) x) ∙ sym (ap (λ (z : List ℕ). length z) e) ∙ length-take-le m b h
 
 -- x is written in front of what stands behind the room left for it
 pub in-front : {n r : ℕ} {b c x : List ℕ} (m : ℕ) (a y : List ℕ) → Writes b n x c r → take m b ≡ take r a ++ y → n ≤ r → r ≤ length a → r ≤ m → take m c ≡ take n a ++ (x ++ y)
 in-front {n} {r} {b} {c} {x} m a y w e h l g =
-    let p : take n b ≡ take n a = sym (take_twice n m b (omega arith)) ∙ ap (λ (z : List ℕ). take n z) e ∙ take_less n r a y h l in
+    let p : take n b ≡ take n a = sym (take-take n m b (omega arith)) ∙ ap (λ (z : List ℕ). take n z) e ∙ take_less n r a y h l in
     let q : drop r (take m c) ≡ y =
     drop_of_take r m (m - r) c (omega arith) ∙ ap (λ (z : List ℕ). take (m - r) z) w.rest ∙ sym (drop_of_take r m (m - r) b (omega arith))
     ∙ ap (λ (z : List ℕ). drop r z) e ∙ drop-taken r a y l
     in
-    sym (take-append-drop r (take m c)) ∙ ap (λ (z : List ℕ). z ++ drop r (take m c)) (take_twice r m c g ∙ w.nodes ∙ ap (λ (z : List ℕ). z ++ x) p)
+    sym (take-append-drop r (take m c)) ∙ ap (λ (z : List ℕ). z ++ drop r (take m c)) (take-take r m c g ∙ w.nodes ∙ ap (λ (z : List ℕ). z ++ x) p)
     ∙ ap (λ (z : List ℕ). (take n a ++ x) ++ z) q ∙ append_assoc (take n a) x y
 
 -- a symbol closes what was read, with room left for one more node

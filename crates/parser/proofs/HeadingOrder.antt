@@ -10,7 +10,7 @@ use native.Mathlib.Omega.{arith}
 use borrow.Author.Tests.{le-ltb}
 use lib.Dec.{eqb, ltb}
 use Rattle.refusals.specs.Refusals.{Refusal, Fault, fault, heading_differs, number_of, before, lesser, least}
-use Rattle.lexical.proofs.BooleanTests.{and-right-false}
+use Rattle.std.proofs.lemmas.Bool.{and_right}
 use Rattle.parser.specs.Sections.{Finds}
 
 -- faults of number 7, at i or behind it, in the order of their places
@@ -31,7 +31,7 @@ unfolding before number_of
 not-before f g l p q =
     ap (λ (b : Bool). b || eqb g.place f.place && ltb (number_of g.refusal) (number_of f.refusal)) (le-ltb g.place f.place l)
     ∙ ap (λ (r : Refusal). eqb g.place f.place && ltb (number_of r) (number_of f.refusal)) q
-    ∙ ap (λ (r : Refusal). eqb g.place f.place && ltb 7 (number_of r)) p ∙ and-right-false (eqb g.place f.place) false refl
+    ∙ ap (λ (r : Refusal). eqb g.place f.place && ltb 7 (number_of r)) p ∙ and_right (eqb g.place f.place) false refl
 
 least_first : (i : ℕ) (fs : List Fault) → Rising i fs → least fs ≡ head_of fs
 unfolding least lesser head_of

@@ -9,7 +9,7 @@ use Rattle.form.specs.Tree.{Letters, Pred, TypeForm, given_type, power_type, ran
 use Rattle.form.specs.Headings.{given_length}
 use Rattle.form.specs.Written.{write_declarations}
 use Rattle.form.specs.Codes.{node, type_width, Numbering, entry_codes, element_codes, given_codes, type_codes, declaration_codes, parameter_codes, pred_codes, condition_codes, state_codes}
-use Rattle.parser.specs.Sections.{size_of, size_at, In, Run, stops, passes, StateAt}
+use Rattle.parser.specs.Sections.{size_of, size_at, ItemAt, In, Run, stops, passes, StateAt}
 
 -- behind the first n numbers of c stands q
 pub record Split (c : List ℕ) (n : ℕ) (q : List ℕ) : Type 0 where
@@ -97,7 +97,7 @@ givens-items i (g ∷ gs) ρ =
     more {k = 3} [] (omega arith) (omega arith) refl
     (items-append (items-wide (elements-items (i + 2) (elements g) ρ) (omega arith) (omega arith)) (givens-items (i + given_length g) gs ρ))
 
-type-length : (t : TypeForm) (i : ℕ) (ρ : Numbering) → length (type_codes t i ρ) ≡ 4
+pub type-length : (t : TypeForm) (i : ℕ) (ρ : Numbering) → length (type_codes t i ρ) ≡ 4
 type-length (given_type g) i ρ = refl
 type-length (power_type g) i ρ = refl
 type-length (range_type r) i ρ = refl
@@ -178,12 +178,6 @@ state-at {c} {n} i s ρ q w =
       predicate = omega arith;
       inside = omega arith;
     }
-
--- one item from i up to e
-pub record ItemAt (t : List ℕ) (m i e : ℕ) : Type 0 where
-  pub room : i + 4 ≤ m
-  pub size : i + size_at t i ≡ e
-  pub inside : e ≤ m
 
 pub condition-at : {c : List ℕ} {n : ℕ} (i : ℕ) (p : Pred) (ρ : Numbering) (q : List ℕ) → Split c n (condition_codes i p ρ ++ q) → ItemAt c (length c) n (n + length (condition_codes i p ρ))
 condition-at {c} {n} i p ρ q w =

@@ -22,5 +22,5 @@ pub mod BodyFaults
 pub mod TitledBodies
 pub mod HeadingLetters
 pub mod HeadingAnswers
-pub mod NumbersInLists
 pub mod BodyNodes
+pub mod NodesBetween

@@ -10,9 +10,9 @@ use Rattle.form.specs.Tree.{Dossier}
 use Rattle.form.specs.Written.{write_entries, a_given}
 use Rattle.form.specs.Headings.{givens_at, abstract_at, concrete_at, ainit_at, cinit_at, retrieve_at, operations_at}
 use Rattle.form.specs.Codes.{Numbering, entry_codes, given_codes, state_codes, condition_codes, operation_codes, contents_codes, dossier_codes}
-use Rattle.parser.specs.Sections.{size_of, size_at, Run, StateAt}
+use Rattle.parser.specs.Sections.{size_of, size_at, ItemAt, Run, StateAt}
 use Rattle.parser.specs.Sections.{entries_from, givens_from, abstract_from, concrete_from, ainit_from, cinit_from, retrieve_from, operations_from}
-use Rattle.parser.proofs.ItemNodes.{Split, split-first, split-next, items-run, entries-items, givens-items, ItemAt, state-at, condition-at}
+use Rattle.parser.proofs.ItemNodes.{Split, split-first, split-next, items-run, entries-items, givens-items, state-at, condition-at}
 use Rattle.parser.proofs.ItemNodes.{above, entries-above, givens-above, state-above}
 
 module _ (d : Dossier) (ρ : Numbering) where

@@ -3,7 +3,7 @@ use Rattle.std.specs.Prelude.{Some, None, Ok, Err}
 use Rattle.refusals.specs.declared.Fault as refusals
 use Rattle.refusals.specs.declared.Refusal.TheVariants.{HeadingDiffers}
 use Rattle.std.specs.Prelude as prelude
-use Rattle.std.specs.Prelude.{◌≡◌, Bool, true, false, cond, List, ℕ, ◌+◌, ◌≤◌, ◌<◌, eqb, length, take, get_or}
+use Rattle.std.specs.Prelude.{◌≡◌, Bool, true, false, cond, List, [], ℕ, ◌+◌, ◌-◌, ◌≤◌, ◌<◌, eqb, length, take, drop, get_or}
 use Rattle.std.proofs.Math.Option.{none, some}
 use Rattle.lexical.specs.Kinds as kind
 use Rattle.lexical.specs.Symbols.{Name, Symbol, fixed, name}
@@ -80,6 +80,12 @@ Headed a m symbols r =
     (d : Dossier) (ρ : Numbering) → m ≤ length a → take m a ≡ dossier_codes d ρ → symbols ≡ length (symbols_of d) → Tells ρ (symbols_of d) → Finds (heading_faults d) r
 
 -- What the functions promise each other, over the first m numbers of the array. Nothing below need be believed.
+-- some of the nodes, none where the places are not in order
+pub record PartOf (nodes : List ℕ) (from to : ℕ) (r : List ℕ) : Type 0 where
+  pub fits : 1 ≤ length r → from + length r ≤ length nodes
+  pub part : from ≤ to → to ≤ length nodes → r ≡ take (to - from) (drop from nodes)
+  pub none : (from ≤ to → to ≤ length nodes → ⊥) → r ≡ []
+
 abbrev pub Part : List ℕ → (at m k r : ℕ) → Type 0
 Part a at m k r = at + 4 ≤ m → r ≡ get_or (take m a) (at + k) 0
 
@@ -98,6 +104,12 @@ pub record Skips (a : List ℕ) (m at r : ℕ) : Type 0 where
   pub within : r ≤ m
   pub ahead : at < m → at < r
   pub exact : at + 4 ≤ m → at + size_at (take m a) at ≤ m → r ≡ at + size_at (take m a) at
+
+-- one item from i up to e
+pub record ItemAt (t : List ℕ) (m i e : ℕ) : Type 0 where
+  pub room : i + 4 ≤ m
+  pub size : i + size_at t i ≡ e
+  pub inside : e ≤ m
 
 -- an item of one of the shapes low to high
 pub record In (t : List ℕ) (m low high i : ℕ) : Type 0 where

@@ -33,7 +33,7 @@ fn condition(y: &Symbols<'_>, from: Read, word: u8, code: &mut [u16]) -> Result<
     let body = pred(y, behind, Reach { depth: 0, names: 0 }, code)?;
     let written = (body.count - behind.count) as u16;
     put(code, from.count, shapes::PREDICATE, from.at, written, 0);
-    close(y.kinds, body.at, word, body.count)
+    close(y.kinds, body, word)
 }
 
 // A state's body, by its heading.
@@ -41,10 +41,10 @@ fn state(y: &Symbols<'_>, from: Read, word: u8, code: &mut [u16]) -> Result<Read
     requires { Room y.now.kinds.now code.old from.at from.count × (1 ≤ word) }
     ensures { ((κ : Kind) → (code_of κ ≡ word) → Reads y.now.kinds.now from.at from.count (a_state_of κ) [] result) × Made y.now.kinds.now y.now.values.now (a_state word) from.at from.count code.old code.new result }
 {
-    let heading = close(y.kinds, from.at, word, from.count)?;
+    let heading = close(y.kinds, from, word)?;
     let count = put(code, from.count, shapes::STATE, from.at, 0, 0);
     let declared = declarations(y, Read { count, ..heading }, code)?;
-    let wheres = close(y.kinds, declared.at, codes::WHERE, declared.count)?;
+    let wheres = close(y.kinds, declared, codes::WHERE)?;
     condition(y, wheres, codes::END, code)
 }
 
@@ -53,8 +53,8 @@ fn where_of(y: &Symbols<'_>, from: Read, word: u8, code: &mut [u16]) -> Result<R
     requires { Room y.now.kinds.now code.old from.at from.count × (1 ≤ word) }
     ensures { ((κ : Kind) → (code_of κ ≡ word) → Reads y.now.kinds.now from.at from.count (a_where_of κ) [] result) × Made y.now.kinds.now y.now.values.now (a_where word) from.at from.count code.old code.new result }
 {
-    let heading = close(y.kinds, from.at, word, from.count)?;
-    let wheres = close(y.kinds, heading.at, codes::WHERE, heading.count)?;
+    let heading = close(y.kinds, from, word)?;
+    let wheres = close(y.kinds, heading, codes::WHERE)?;
     condition(y, wheres, codes::END, code)
 }
 
@@ -71,7 +71,7 @@ fn operation(y: &Symbols<'_>, from: Read, code: &mut [u16]) -> Result<Read, Faul
         count,
     };
     let taken = parameters(y, titled, code)?;
-    let word = close(y.kinds, taken.at, codes::ABSTRACT, taken.count)?;
+    let word = close(y.kinds, taken, codes::ABSTRACT)?;
     let abstractly = condition(y, word, codes::CONCRETE, code)?;
     condition(y, abstractly, codes::END, code)
 }

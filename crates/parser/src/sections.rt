@@ -1,7 +1,7 @@
 // Where the parts of a dossier begin among its nodes (form/specs/Codes.antt).
 // Form 5: the shapes from `low` to `high` go as two numbers: of a `RangeInclusive` `inside`, `run` and `compare` would have to ask that it is not spent.
 ghost use Rattle.std.specs.Prelude.{◌≡◌, ◌≤◌, ◌<◌};
-ghost use Rattle.parser.specs.Sections.{Part, Sized, Skips, Inside, RunsTo, Behind, Sectioned};
+ghost use Rattle.parser.specs.Sections.{PartOf, Part, Sized, Skips, Inside, RunsTo, Behind, Sectioned};
 
 use form::node;
 use form::shapes::{DECLARED, ELEMENT, GIVEN, GIVEN_ENTRY, OPERATION_ENTRY, PREDICATE};
@@ -26,6 +26,20 @@ pub struct Bounds {
     pub cinit: usize,
     pub retrieve: usize,
     pub operations: usize,
+}
+
+// The variables of the two states, by their nodes.
+#[derive(Clone, Copy)]
+pub struct States<'a> {
+    pub abstracts: &'a [u16],
+    pub concretes: &'a [u16],
+}
+
+// The nodes from one place to another; none where the places are not in order.
+pub fn between(nodes: &[u16], from: usize, to: usize) -> &[u16]
+    ensures { PartOf nodes.now from to result.now }
+{
+    nodes.get(from..to).unwrap_or(&nodes[..0])
 }
 
 // How many numbers the nodes of an item have: behind a declared name stands its type, and a predicate says how many follow.

@@ -9,18 +9,12 @@ use Rattle.form.specs.Tree.{Operation, Dossier}
 use Rattle.static_rules.specs.Scope.{unprimed, inputs, outputs}
 use Rattle.meaning.proofs.Places.{below-entry}
 use Rattle.plans.specs.declared.Part.{Part}
-use Rattle.part_setup.specs.SetupPromises.{StatesAsked, StatesSet, OperationAsked, OperationSet, OpeningCounts, OpeningPartIs}
+use Rattle.part_setup.specs.SetupPromises.{StatesAsked, StatesSet, OperationAsked, OperationSet, OpeningPartIs}
 use Rattle.part_setup.specs.SetupPromises.{OperationCounts, ApplicabilityPartIs, CorrectnessPartIs}
 use Rattle.part_setup.proofs.AskedParts as part
 use Rattle.part_places.specs.Places.{GroupsOf, PartAsked, PartSet}
 
 module _ {table groups : List ℕ} {d : Dossier} (G : GroupsOf table groups d) where
-  states : StatesAsked table groups
-  states = record { abstractly = unprimed d d.abstract; concretely = unprimed d d.concrete; abstracts = G.abstracts; concretes = G.concretes }
-
-  opening-counts : {cells : List ℕ} → StatesSet table groups cells → OpeningCounts groups cells (unprimed d d.abstract) (unprimed d d.concrete)
-  opening-counts s = part.opening-counts G.abstracts G.concretes s
-
   operation-counts : (j : ℕ) (op : Operation) → get_elem? d.operations j ≡ some op → {cells : List ℕ} → OperationSet table groups (18 + 8 * j) cells
       → OperationCounts groups (18 + 8 * j) cells (unprimed d d.abstract) (unprimed d d.concrete) (inputs d op) (outputs d op)
   operation-counts j op listed s = part.operation-counts G.abstracts G.concretes (G.inputs_at j op listed) (G.outputs_at j op listed) s
@@ -29,20 +23,13 @@ module _ {table groups : List ℕ} {d : Dossier} (G : GroupsOf table groups d) w
 
 module _ {table groups : List ℕ} {k : ℕ} (a : PartAsked table groups k) where
   pub states-asked : StatesAsked table groups
-  states-asked = states a.groups_are
+  states-asked = part.states-asked a.groups_are.abstracts a.groups_are.concretes
 
   module _ (j : ℕ) (h : j < length a.dossier.operations) where
     pub operation-asked : OperationAsked table groups (18 + 8 * j)
     operation-asked =
         let t : (op : Operation) × (get_elem? a.dossier.operations j ≡ some op) = below-entry a.dossier.operations j h in
-        record {
-          states = states-asked;
-          inward = inputs a.dossier t.0;
-          outward = outputs a.dossier t.0;
-          row_low = omega (arith, a.groups_are.operations);
-          inputs = a.groups_are.inputs_at j t.0 t.1;
-          outputs = a.groups_are.outputs_at j t.0 t.1;
-        }
+        part.operation-asked a.groups_are.abstracts a.groups_are.concretes (omega (arith, a.groups_are.operations)) (a.groups_are.inputs_at j t.0 t.1) (a.groups_are.outputs_at j t.0 t.1)
 
   -- its operation is one of the dossier's
   pub applicability-low : (j : ℕ) → k ≡ 1 + 2 * j → j < length a.dossier.operations
@@ -61,7 +48,7 @@ module _ {table groups cells : List ℕ} {k : ℕ} {p : Part} where
   pub opening-set : k ≡ 0 → StatesSet table groups cells → OpeningPartIs groups cells p → PartSet table groups k cells p
   opening-set h s i = record {
     opening = λ d G e.
-        let c = opening-counts G s in
+        let c = part.opening-counts G.abstracts G.concretes s in
         (c.cells_are, i.is (unprimed d d.abstract) (unprimed d d.concrete) c);
     applying = λ d G j op listed e. absurd (omega arith);
     correcting = λ d G j op listed e. absurd (omega arith);

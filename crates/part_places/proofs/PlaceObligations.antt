@@ -1,5 +1,5 @@
 -- The obligation of the check at a place, by the number of its part. Assumes nothing.
-use mathlib.Core.Path.{◌≡◌, refl, ap, ◌∙◌}
+use mathlib.Core.Path.{◌≡◌, refl, sym, ap, ◌∙◌}
 use mathlib.Core.List.{[]}
 use mathlib.Core.Option.{some}
 use Prim.Native.Nat.{ℕ, ◌+◌, ◌*◌, ◌<◌}
@@ -8,12 +8,18 @@ use lib.ListN.{length, get_elem?}
 use Rattle.form.specs.Tree.{Operation, Dossier}
 use Rattle.meaning.proofs.Places.{member-at, below-entry}
 use Rattle.obligations.specs.Subjects.{subject_of}
+use Rattle.obligations.specs.Order as order
 use Rattle.obligations.specs.Order.{Check, initialises, initialisation, applicability, correctness, obligation_of, applicability_checks, correctness_checks}
 use Rattle.obligations.specs.Report.{check_at}
 use Rattle.obligations.proofs.Groups.{every-applicability, every-correctness}
 use Rattle.obligations.proofs.Digits.{applicability_size, correctness_size, start_of, length-applicability, length-correctness}
 use Rattle.obligations.proofs.Digits.{initialisation-place, applicability-place, correctness-place}
 use Rattle.part_setup.specs.PartTestsPartOrder.{part_size, part_begin}
+use Rattle.held_checks.specs.declared.Obligation.{Obligation}
+use Rattle.held_checks.specs.Answers.{obligation_is}
+use Rattle.held_checks.specs.StepPromises.{PartTold}
+use Rattle.held_checks.proofs.StepLaws.{told-case}
+use Rattle.part_places.specs.Places.{parts}
 use Rattle.parts.proofs.PartOrderLaws.{first-size, first-begin, applicability-size, correctness-size, applicability-begin, correctness-begin}
 
 module _ (d : Dossier) where
@@ -43,3 +49,9 @@ module _ (d : Dossier) where
         ∙ ap obligation_of (correctness-place (subject_of d) j t.0 t.1 q l)
         ∙ every-correctness d (λ (x : Check). obligation_of x ≡ correctness j) j t.0 (λ a c i o c'. refl) _
         (member-at (correctness_checks d j t.0) q (initialises []) (omega (arith, l, length-correctness d j t.0)))
+
+-- the obligation that is told of a part is that of the checks at its places
+pub part-obligation : (d : Dossier) (part q : ℕ) {r : Obligation} → PartTold part r → part < parts d → q < part_size d part → obligation_is r ≡ obligation_of (check_at (subject_of d) (part_begin d part + q))
+part-obligation d part q t h l =
+    told-case (λ (o : order.Obligation). o ≡ obligation_of (check_at (subject_of d) (part_begin d part + q))) part t (λ e. sym (obligation-opening d part q l e))
+    (λ j e. sym (obligation-applying d part q l j e (omega (arith, e, h)))) (λ j e. sym (obligation-correcting d part q l j e (omega (arith, e, h))))

@@ -1,4 +1,6 @@
 // The parts of a check by their places: how many places each has, and all of them; the part of a place.
+// Form 5: `PartAsked` is of the dossier and of the part's number k: a struct of both is a `Model` of some ten lines for three clauses, two here and one in `state_facts`, and would be made by
+// a literal where each clause is shown now.
 #![tactic(auto)]
 
 ghost use Rattle.part_setup.specs.SetupPromises.{Blank};

@@ -16,9 +16,7 @@ use Rattle.part_tests.specs.PlansPlanPromises.{ApplicabilityPlan}
 use Rattle.part_tests.specs.NestStepsNestPromises.{Groups, DependsOn, Sized, Nest}
 use Rattle.part_tests.specs.PartGroups.{applicability_groups}
 use Rattle.part_tests.specs.PartsByNumber.{applicability_tests}
-use Rattle.part_searches.proofs.SearchPlans.{none-asked, search_of}
-use Rattle.part_searches.proofs.AskingKinds.{Anywhere}
-use Rattle.part_searches.proofs.NestParts.{no_variables, outside-run, outside-append, run-apart, none_apart}
+use Rattle.part_searches.proofs.NestParts.{nothing-searched, outside-run, outside-append, run-apart, none_apart}
 use Rattle.part_searches.proofs.OperationPremises.{OperationReading, small, states, related, readily, ready, ready_is}
 use Rattle.part_searches.proofs.OperationSteps.{stepping_at, steps_search, some-step}
 
@@ -41,7 +39,7 @@ module _ {table rows firsts groups cells plan : List ℕ} {d : Dossier} {op : Op
 
   -- no concrete step is a premise
   no_steps : SearchOf table plan cells 3 [] (λ (δ : Point). true)
-  no_steps = search_of {see = Anywhere} none-asked none-asked none-asked N.steps (no_variables (omega arith))
+  no_steps = nothing-searched N.steps (omega arith)
 
   pub applicability-nest : {p : Part} → p.conclusion ≡ OfState → Sized cells p (applicability_of d op) → Nest table plan cells p (applicability_of d op) (applicability_tests d op)
   unfolding DependsOn

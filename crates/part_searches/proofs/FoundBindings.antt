@@ -9,7 +9,7 @@ use native.Mathlib.Omega.{arith}
 use lib.Arith.{digits_lt, digits_div, digits_mod}
 use lib.ListN.{get_or, length}
 use Rattle.lexical.specs.Lists.{any, upward}
-use Rattle.lexical.proofs.BooleanTests.{both-ways}
+use Rattle.std.specs.Cmp.{both_ways}
 use Rattle.static_rules.specs.Carriers.{Variable}
 use Rattle.static_rules.specs.Limits.{binding_count}
 use Rattle.meaning.specs.Meaning.{Binding}
@@ -29,7 +29,7 @@ use Rattle.part_tests.specs.NestStepsNestPromises.{some_binding}
 
 -- a number of two digits
 any-digits : (f : ℕ → ℕ → Bool) (a b : ℕ) → 0 < b → any (λ (n : ℕ). f (n / b) (n % b)) (upward 0 (a * b)) ≡ any (λ (i : ℕ). any (f i) (upward 0 b)) (upward 0 a)
-any-digits f a b p = both-ways (any (λ (n : ℕ). f (n / b) (n % b)) (upward 0 (a * b))) (any (λ (i : ℕ). any (f i) (upward 0 b)) (upward 0 a)) there back
+any-digits f a b p = both_ways (any (λ (n : ℕ). f (n / b) (n % b)) (upward 0 (a * b))) (any (λ (i : ℕ). any (f i) (upward 0 b)) (upward 0 a)) there back
   where
     there : any (λ (n : ℕ). f (n / b) (n % b)) (upward 0 (a * b)) ≡ true → any (λ (i : ℕ). any (f i) (upward 0 b)) (upward 0 a) ≡ true
     there e =

@@ -1,6 +1,6 @@
 -- The nest of the initialisation part: its searches find the concrete initial states, and for each an abstract initial state that is related.
 use mathlib.Core.Path.{◌≡◌, refl, sym, ap, subst}
-use mathlib.Core.Bool.{Bool, true, ◌&&◌}
+use mathlib.Core.Bool.{Bool, true, ◌&&◌, and-true}
 use mathlib.Core.List.{List, []}
 use Prim.Native.Nat.{ℕ, ◌≤◌}
 use native.Mathlib.Omega.{arith}
@@ -24,10 +24,9 @@ use Rattle.readings.specs.Readings.{ReadingOf}
 use Rattle.part_searches.proofs.SearchPlans.{none-asked, search_of}
 use Rattle.part_searches.proofs.SlotGroups.{filled}
 use Rattle.part_searches.proofs.PointStates.{abstract_group, concrete_group}
-use Rattle.part_searches.proofs.AskingKinds.{Anywhere}
 use Rattle.part_searches.proofs.StateAskings.{abstract-asked, ainit-asked, concrete-asked, cinit-asked, retrieve-abstract-asked}
 use Rattle.part_searches.proofs.FoundBindings.{some-group}
-use Rattle.part_searches.proofs.NestParts.{common-rows, search_same, and_true, no_variables, one-searched}
+use Rattle.part_searches.proofs.NestParts.{common-rows, search_same, nothing-searched, one-searched}
 use Rattle.part_searches.proofs.NestParts.{outside-run, run-apart, none_apart}
 
 abbrev pub initialisation_groups : Dossier → Groups
@@ -41,15 +40,8 @@ module _ {table rows firsts groups plan cells : List ℕ} {d : Dossier} (R : Rea
   few_c : length (unprimed d d.concrete) ≤ 8
   few_c = R.concretes.short
 
-  -- three searches have no variables and no tests
-  states : SearchOf table plan cells 0 [] (λ (δ : Point). true)
-  states = search_of {see = Anywhere} none-asked none-asked none-asked N.states (no_variables (omega arith))
-
-  ready : SearchOf table plan cells 2 [] (λ (δ : Point). true)
-  ready = search_of {see = Anywhere} none-asked none-asked none-asked N.ready (no_variables (omega arith))
-
   steps : SearchOf table plan cells 3 [] (λ (δ : Point). true)
-  steps = search_of {see = Anywhere} none-asked none-asked none-asked N.steps (no_variables (omega arith))
+  steps = nothing-searched N.steps (omega arith)
 
   -- the concrete initial states
   pub related : SearchOf table plan cells 1 (concrete_group d) (λ (δ : Point). initial d (number_of cells (concrete_group d) δ))
@@ -60,7 +52,7 @@ module _ {table rows firsts groups plan cells : List ℕ} {d : Dossier} (R : Rea
       (N.related (common-rows R.tests))
       (one-searched (length (unprimed d d.concrete)) (omega arith) N.related_slots few_c (omega (arith, few_c)) (filled cells 8 (unprimed d d.concrete) C.concretes)))
       (λ δ t. ap (λ (b : Bool). is_state d d.concrete (concrete_at d (number_of cells (concrete_group d) δ)) && b)
-      (and_true (holds d.cinit (environment d (concrete_at d (number_of cells (concrete_group d) δ))))))
+      (and-true (holds d.cinit (environment d (concrete_at d (number_of cells (concrete_group d) δ))))))
 
   -- an abstract initial state that is related
   abbrev pub meetly : Point → Bool
@@ -86,10 +78,10 @@ module _ {table rows firsts groups plan cells : List ℕ} {d : Dossier} (R : Rea
   unfolding some_binding any upward span DependsOn
   initialisation-nest u z = record {
     sized = z;
-    states = states;
+    states = nothing-searched N.states (omega arith);
     related = related;
     readily = λ δ. true;
-    ready = ready;
+    ready = nothing-searched N.ready (omega arith);
     ready_is = λ δ t. refl;
     steps = steps;
     front_is = λ δ t. steps.whole δ t;

@@ -1,6 +1,6 @@
 -- What the nests of all parts are made of: the rows that their plans ask, searches without variables and over one group, groups that have no slot in common.
 use mathlib.Core.Path.{◌≡◌, refl, ◌∙◌, subst}
-use mathlib.Core.Bool.{Bool, true, false, ◌&&◌}
+use mathlib.Core.Bool.{Bool, true}
 use mathlib.Core.Logic.{◌⊎◌, inl, inr}
 use mathlib.Core.List.{List, [], ◌++◌}
 use mathlib.Core.Option.{some}
@@ -22,8 +22,10 @@ use Rattle.states.proofs.StateLaws.{ContextOf, abstract-context, concrete-contex
 use Rattle.states.proofs.StepLaws.{abstract-operation, concrete-operation}
 use Rattle.part_tests.specs.PointsPoints.{Point, Tame, Apart, no_slots}
 use Rattle.part_tests.specs.PointsSearches.{SearchOf}
-use Rattle.part_tests.specs.PlansPlanPromises.{SlotsIn, RowsOf, CommonRows, OperationRows}
-use Rattle.part_searches.proofs.SearchPlans.{Searched}
+use Rattle.part_tests.specs.PlansPlanPromises.{SlotsIn, RowsOf, CommonRows, OperationRows, LevelsIn}
+use Rattle.part_tests.specs.PlansPlansByNumber.{no_asking}
+use Rattle.part_searches.proofs.AskingKinds.{Anywhere}
+use Rattle.part_searches.proofs.SearchPlans.{Searched, none-asked, search_of}
 use Rattle.part_searches.proofs.SlotGroups.{Filled, searched}
 
 -- ---- rows
@@ -61,11 +63,7 @@ abbrev pub search_same : {table plan cells : List ℕ} {u : ℕ} {ss : List ℕ}
     → SearchOf table plan cells u ss Q
 search_same s e = record { tests = s.tests; planned = s.planned; distinct = s.distinct; whole = λ δ t. s.whole δ t ∙ e δ t }
 
-pub and_true : (b : Bool) → (b && true) ≡ b
-and_true true = refl
-and_true false = refl
-
-pub no_variables : {plan cells : List ℕ} {u : ℕ} → u < 5 → Searched plan cells u []
+no_variables : {plan cells : List ℕ} {u : ℕ} → u < 5 → Searched plan cells u []
 no_variables h = record {
   search_low = h;
   few = omega arith;
@@ -75,6 +73,10 @@ no_variables h = record {
   some = λ i l. let z : ⊥ = omega arith in absurd z;
   distinct = no_slots;
 }
+
+-- a search without variables and tests
+pub nothing-searched : {table rows plan cells : List ℕ} {u : ℕ} → LevelsIn rows plan u no_asking no_asking no_asking → u < 5 → SearchOf table plan cells u [] (λ (δ : Point). true)
+nothing-searched k h = search_of {see = Anywhere} none-asked none-asked none-asked k (no_variables h)
 
 one-group : (a t v : ℕ) → upward a 0 ++ upward t v ≡ upward t v
 unfolding upward

@@ -1,10 +1,10 @@
 -- The predicates of an operation, and those of its states after, as the searches ask them, each by the numbers of its groups' bindings.
 -- stands once for each side: the laws of what is asked; they cite `after-asked`, `step-asked` and `over-asked`, and what those do not share is the side's in each argument.
-use mathlib.Core.Path.{◌≡◌, refl, sym, ap, ◌∙◌, subst}
+use mathlib.Core.Path.{◌≡◌, sym, ap, ◌∙◌, subst}
 use mathlib.Core.Bool.{Bool}
 use mathlib.Core.List.{List, ◌++◌, append_assoc}
 use mathlib.Core.Option.{some}
-use Prim.Native.Nat.{ℕ, suc, ◌+◌, ◌*◌, ◌<◌, ◌≤◌}
+use Prim.Native.Nat.{ℕ, ◌+◌, ◌*◌, ◌<◌, ◌≤◌}
 use native.Mathlib.Omega.{arith}
 use lib.ListN.{length, get_elem?}
 use Rattle.form.specs.Tree.{State, Operation, Dossier}
@@ -23,7 +23,7 @@ use Rattle.states.proofs.StateLaws.{abstract-context, concrete-context}
 use Rattle.states.proofs.StepLaws.{abstract-operation, concrete-operation}
 use Rattle.part_tests.specs.PointsPoints.{Point, primed_slot, number_of}
 use Rattle.part_tests.specs.PointsPointTests.{side_slot, Celled}
-use Rattle.part_tests.proofs.PointsPointBindings.{primed-abstract, primed-concrete, abstract-primed, concrete-primed, Primes, no_primes, more_primes, state-primes}
+use Rattle.part_tests.proofs.PointsPointBindings.{primed-abstract, primed-concrete, abstract-primed, concrete-primed, primes-long, state-primes}
 use Rattle.part_tests.proofs.PointsPointTruths.{celled-slots, celled-after, celled-primes, celled-append}
 use Rattle.part_tests.specs.PlansPlanPromises.{RowsOf, over_asking, after_asking, step_asking}
 use Rattle.part_tests.specs.PartsByNumber.{abstract_at, concrete_at, input_at, output_at}
@@ -34,10 +34,6 @@ use Rattle.part_searches.proofs.AskingKinds.{Anywhere, Using, NoOutput, over-ask
 use Rattle.part_searches.proofs.PointStates.{abstract_group, concrete_group, input_group, output_group, concrete_after_group, abstract_after_group}
 use Rattle.part_searches.proofs.PointStates.{abstract-behind, concrete_behind, abstract-step, concrete-step}
 use Rattle.part_searches.proofs.StateAskings.{using-slotted, using_append, abstract-after, concrete-after, low-slotted}
-
-primes-long : {vs us : List Variable} → Primes vs us → length us ≡ length vs
-primes-long no_primes = refl
-primes-long (more_primes r) = ap suc (primes-long r)
 
 -- no slot of a state after is seen as one of the outputs
 no-output : (s m n : ℕ) → primed_slot s ≡ m → 22 ≤ m → n ≤ 3 → NoOutput n s

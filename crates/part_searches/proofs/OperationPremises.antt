@@ -1,6 +1,6 @@
 -- The searches that both obligations of an operation have: abstract states, the concrete states related to them, the abstract precondition.
 use mathlib.Core.Path.{◌≡◌, ap, ap₂}
-use mathlib.Core.Bool.{Bool, ◌&&◌}
+use mathlib.Core.Bool.{Bool, ◌&&◌, and-true}
 use mathlib.Core.Logic.{inl}
 use mathlib.Core.List.{List, ◌++◌}
 use mathlib.Core.Option.{some}
@@ -25,7 +25,7 @@ use Rattle.part_searches.proofs.StateAskings.{retrieved, abstract-asked, concret
 use Rattle.part_searches.proofs.OperationAskings.{SmallGroups, abstract_stepping}
 use Rattle.part_searches.proofs.OperationAskings.{abstract-behind-asked, abstract-step-asked}
 use Rattle.part_searches.proofs.FoundBindings.{some-groups}
-use Rattle.part_searches.proofs.NestParts.{operation-rows, search_same, and_true, one-searched, outside-run, outside-append, run-apart}
+use Rattle.part_searches.proofs.NestParts.{operation-rows, search_same, one-searched, outside-run, outside-append, run-apart}
 
 -- an operation of a dossier that was read, with the cells of its groups
 pub record OperationReading (table rows firsts groups cells : List ℕ) (d : Dossier) (op : Operation) (j : ℕ) : Type 0 where
@@ -73,7 +73,7 @@ module _ {table rows firsts groups cells : List ℕ} {d : Dossier} {op : Operati
         search_same
         (search_of (abstract-asked X.reading.tests X.celled.states a small.concretes planned-rows.common.abstractly) none-asked none-asked (N.states planned-rows)
         (one-searched va (omega arith) N.states_slots a (omega arith) (filled cells 0 (unprimed d d.abstract) X.celled.states.abstracts)))
-        (λ δ t. and_true (is_state d d.abstract (abstract_at d (number_of cells (abstract_group d) δ))))
+        (λ δ t. and-true (is_state d d.abstract (abstract_at d (number_of cells (abstract_group d) δ))))
 
     pub related : SearchOf table plan cells 1 (concrete_group d) (λ (δ : Point). related_to d (number_of cells (abstract_group d) δ) (number_of cells (concrete_group d) δ))
     unfolding related_to
@@ -83,7 +83,7 @@ module _ {table rows firsts groups cells : List ℕ} {d : Dossier} {op : Operati
         (search_of (concrete-asked X.reading.tests X.celled.states small.abstracts c planned-rows.common.concretely)
         (retrieve-concrete-asked X.reading.tests X.celled.states small.abstracts c planned-rows.common.retrieve) none-asked (N.related planned-rows)
         (one-searched vc (omega arith) N.related_slots c (omega arith) (filled cells 8 (unprimed d d.concrete) X.celled.states.concretes)))
-        (λ δ t. ap (λ (b : Bool). is_state d d.concrete (concrete_at d (number_of cells (concrete_group d) δ)) && b) (and_true (retrieved cells d δ)))
+        (λ δ t. ap (λ (b : Bool). is_state d d.concrete (concrete_at d (number_of cells (concrete_group d) δ)) && b) (and-true (retrieved cells d δ)))
 
     abbrev pub readily : Point → Bool
     readily δ =
@@ -100,7 +100,7 @@ module _ {table rows firsts groups cells : List ℕ} {d : Dossier} {op : Operati
         (abstract-step-asked X.reading.tests X.celled small j X.is planned-rows.abstractly) none-asked (N.ready planned-rows)
         (searched plan cells 2 19 (length (outputs d op)) 30 va (omega arith) N.ready_slots o a (omega arith) (omega arith) (inl (omega arith))
         (filled cells 19 (outputs d op) X.celled.outputs_in) (filled cells 30 (unprimed d d.abstract) X.celled.states.abstracts_primed)))
-        (λ δ t. ap (λ (b : Bool). is_state d d.abstract (abstract_at d (number_of cells (abstract_after_group d) δ)) && b) (and_true (abstract_stepping cells d op δ)))
+        (λ δ t. ap (λ (b : Bool). is_state d d.abstract (abstract_at d (number_of cells (abstract_after_group d) δ)) && b) (and-true (abstract_stepping cells d op δ)))
 
     pub ready_is : (δ : Point) → Tame cells δ
         → some_binding cells (output_group d op ++ abstract_after_group d) readily δ ≡ ready_at d op (number_of cells (abstract_group d) δ) (number_of cells (input_group d op) δ)

@@ -1,6 +1,6 @@
 -- The search for steps of the concrete operation, over outputs and after states: what it finds, and which outputs its first levels exclude.
 use mathlib.Core.Path.{◌≡◌, refl, sym, ap, ap₂, ◌∙◌, subst}
-use mathlib.Core.Bool.{Bool, true, ◌&&◌}
+use mathlib.Core.Bool.{Bool, true, ◌&&◌, and-true}
 use mathlib.Core.Logic.{◌⊎◌, inl, inr}
 use mathlib.Core.List.{List, ◌++◌}
 use Prim.Native.Nat.{ℕ, ◌+◌, ◌-◌, ◌*◌, ◌<◌, ◌≤◌}
@@ -24,7 +24,7 @@ use Rattle.part_searches.proofs.SlotGroups.{distinct_append, groups-long, groups
 use Rattle.part_searches.proofs.PointStates.{concrete_group, input_group, output_group, concrete_after_group}
 use Rattle.part_searches.proofs.OperationAskings.{step_groups, OfSteps, concrete_stepping, concrete-behind-asked, concrete-step-asked}
 use Rattle.part_searches.proofs.FoundBindings.{counts-append, some-groups}
-use Rattle.part_searches.proofs.NestParts.{and_true, outside-run, outside-append, run-apart}
+use Rattle.part_searches.proofs.NestParts.{outside-run, outside-append, run-apart}
 use Rattle.part_searches.proofs.OperationPremises.{OperationReading, small, planned-rows}
 use Rattle.part_tests.specs.PlansPlansByNumber.{no_asking}
 use Rattle.part_tests.specs.PlansPlanPromises.{after_asking, step_asking}
@@ -74,7 +74,7 @@ module _ {table rows firsts groups cells : List ℕ} {d : Dossier} {op : Operati
   unfolding step_functions concretely
   step-whole δ t =
       search-whole behind step nothing δ t
-      ∙ ap (λ (b : Bool). is_state d d.concrete (concrete_at d (number_of cells (concrete_after_group d) δ)) && b) (and_true (concrete_stepping cells d op δ))
+      ∙ ap (λ (b : Bool). is_state d d.concrete (concrete_at d (number_of cells (concrete_after_group d) δ)) && b) (and-true (concrete_stepping cells d op δ))
 
   pub step-distinct : Distinct search_slots
   step-distinct = groups-distinct 19 vo 22 vc (λ s h k l m. let o = (small X).outputs_few in omega arith)

@@ -3,15 +3,16 @@ use mathlib.Core.Path.{◌≡◌, refl, sym, ap, ap₂, ◌∙◌, subst}
 use mathlib.Core.Bool.{Bool, true, ◌&&◌}
 use mathlib.Core.List.{List, [], ◌∷◌, ◌++◌}
 use Prim.Native.Nat.{ℕ, zero, suc, ◌+◌, ◌<◌, ◌≤◌}
+use native.Mathlib.Nat.{zero-add}
 use native.Mathlib.Omega.{arith}
 use lib.ListN.{get_or, length}
-use borrow.Author.Tests.{eq-eqb, ne_eqb}
 use Rattle.slot_carriers.specs.Cells.{count_in, Readable}
 use Rattle.part_tests.specs.PointsPoints.{Point, Tame, Distinct}
 use Rattle.part_tests.specs.PointsPointTests.{Test}
 use Rattle.part_tests.specs.PointsSearches.{levels_hold, mark_in, slot_in, TestsAt, no_tests, more_tests, Planned, SearchOf}
 use Rattle.part_tests.specs.PlansPlansByNumber.{Asking, level_of, entry_of, entries_from, no_asking}
 use Rattle.part_tests.specs.PlansPlanPromises.{LevelsIn}
+use Rattle.part_tests.proofs.PlansLevelCounts.{entries-here, entries-past}
 use Rattle.part_searches.proofs.LevelledTests.{Levelled, pick, tests_by_level, all_of, by_level, pick-here, pick-past}
 use Rattle.part_searches.proofs.LevelledTests.{Levellings, no_levellings, levellings-append, pick-append, all-of_append, all-levels, level-free}
 
@@ -57,14 +58,6 @@ entries-append : {table cells es ds : List ℕ} {fs gs : List (Point → Bool)} 
 entries-append no_entries k = k
 entries-append (more_entries t r) k = more_entries t (entries-append r k)
 
-row_here : (rows : List ℕ) (P : Asking) (l n r : ℕ) → level_of rows P r ≡ l → entries_from rows P l (suc n) r ≡ entry_of rows P r ∷ entries_from rows P l n (r + 8)
-unfolding entries_from
-row_here rows P l n r e = rw (entries_from, eq-eqb (level_of rows P r) l e)
-
-row-past : (rows : List ℕ) (P : Asking) (l n r : ℕ) → (level_of rows P r ≡ l → ⊥) → entries_from rows P l (suc n) r ≡ entries_from rows P l n (r + 8)
-unfolding entries_from
-row-past rows P l n r e = rw (entries_from, ne_eqb (level_of rows P r) l e)
-
 -- those of level l
 entries-of : {table rows cells : List ℕ} {P : Asking} {n r : ℕ} {xs : List Levelled} (l : ℕ) → RowTests table rows cells P n r xs
     → Entries table cells (entries_from rows P l n r) (pick l xs)
@@ -73,11 +66,11 @@ entries-of l no_row_tests = no_entries
 entries-of {table} {rows} {cells} {P} l (more_row_tests {n = n} {r = r} {f = f} {xs = xs} t k) =
     by_level (level_of rows P r) l
     (λ e.
-    subst (λ (w : List ℕ). Entries table cells w (pick l ((level_of rows P r, f) ∷ xs))) (sym (row_here rows P l n r e))
+    subst (λ (w : List ℕ). Entries table cells w (pick l ((level_of rows P r, f) ∷ xs))) (sym (entries-here rows P r l n e))
     (subst (λ (w : List (Point → Bool)). Entries table cells (entry_of rows P r ∷ entries_from rows P l n (r + 8)) w) (sym (pick-here l (level_of rows P r, f) xs e))
     (more_entries t (entries-of l k))))
     (λ e.
-    subst (λ (w : List ℕ). Entries table cells w (pick l ((level_of rows P r, f) ∷ xs))) (sym (row-past rows P l n r e))
+    subst (λ (w : List ℕ). Entries table cells w (pick l ((level_of rows P r, f) ∷ xs))) (sym (entries-past rows P r l n e))
     (subst (λ (w : List (Point → Bool)). Entries table cells (entries_from rows P l n (r + 8)) w) (sym (pick-past l (level_of rows P r, f) xs e)) (entries-of l k)))
 
 -- tests that stand between two places of the plan
@@ -89,9 +82,6 @@ tests-at {table} {cells} plan to at (more_entries {e = e} {f = f} {es = es} t r)
     (tests-at plan to (at + 1) r (omega arith) (λ i k. ap (λ (j : ℕ). get_or plan j 0) (omega arith) ∙ h (suc i) (omega arith)))
 
 -- ---- the search
-
-plain : (i : ℕ) → 0 + i ≡ i
-plain i = omega arith
 
 module _ {table rows cells : List ℕ} {see : ℕ → Type 0} {ss : List ℕ} {p q r : Asking} {f g h : Point → Bool} (a : AskedAs table rows cells see ss p f)
     (b : AskedAs table rows cells see ss q g) (c : AskedAs table rows cells see ss r h) where
@@ -119,7 +109,7 @@ module _ {table rows cells : List ℕ} {see : ℕ → Type 0} {ss : List ℕ} {p
         few = omega arith;
         levels = λ l i j. level-tests plan u k l (omega arith);
         marks = k.marks;
-        slots = λ i j. ap (λ (m : ℕ). slot_in plan u m) (plain i) ∙ s.slots i j;
+        slots = λ i j. ap (λ (m : ℕ). slot_in plan u m) (zero-add i) ∙ s.slots i j;
         slot_low = s.slot_low;
         readable = s.readable;
         some = s.some;

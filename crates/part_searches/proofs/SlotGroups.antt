@@ -26,6 +26,7 @@ use Rattle.part_searches.proofs.SearchPlans.{Searched}
 
 -- ---- one group
 
+-- Form 8: by `Distinct` of points/specs/Points, since specs/ cites nothing of proofs/, where meaning/proofs/Distinct has its own; both are by recursion on a list and `among-append`.
 pub distinct_append : (xs ys : List ℕ) → Distinct xs → Distinct ys → ((s : ℕ) → Among s xs → Among s ys → ⊥) → Distinct (xs ++ ys)
 unfolding Among
 distinct_append [] ys d e f = e

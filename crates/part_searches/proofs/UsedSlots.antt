@@ -4,7 +4,8 @@ use mathlib.Core.Bool.{Bool, true, false, ◌&&◌, cond}
 use mathlib.Core.Logic.{◌⊎◌, inl, inr}
 use mathlib.Core.List.{List, [], ◌∷◌, ◌++◌}
 use mathlib.Core.Option.{Option, none, some}
-use Prim.Native.Nat.{ℕ, suc, ◌+◌, ◌-◌, ◌<◌, ◌≤◌, max}
+use Prim.Native.Nat.{ℕ, suc, ◌+◌, ◌-◌, ◌<◌, ◌≤◌}
+use native.Mathlib.Nat.{max-le}
 use native.Mathlib.Omega.{arith}
 use lib.Dec.{leb, ltb}
 use lib.ListN.{length}
@@ -119,14 +120,11 @@ module _ (P : ℕ → Type 0) (high : (t : ℕ) → 38 ≤ t → P t) where
 
 -- ---- the last one of a group
 
-max-low : (a b m : ℕ) → a ≤ m → b ≤ m → max a b ≤ m
-max-low a b m h k = omega arith
-
 pub last-low : (base n m : ℕ) (ss : List ℕ) → ((t : ℕ) → Among t ss → base ≤ t → t < base + n → t < base + m) → last_in base n ss ≤ m
 unfolding last_in Among
 last-low base n m [] f = omega arith
 last-low base n m (s ∷ ss) f =
-    max-low (cond (leb base s && ltb s (base + n)) (s - base + 1) 0) (last_in base n ss) m (one (leb base s) (ltb s (base + n)) refl refl)
+    max-le (one (leb base s) (ltb s (base + n)) refl refl)
     (last-low base n m ss (λ t k. f t (inr k)))
   where
     one : (a b : Bool) → leb base s ≡ a → ltb s (base + n) ≡ b → cond (a && b) (s - base + 1) 0 ≤ m

@@ -8,7 +8,7 @@ use lib.ListN.{get_or, length, set, length-set}
 use lib.Seq.{get_or-set_same, get_or-set_other}
 use lib.IntN.{ℤ, pos}
 use Rattle.slot_carriers.specs.Cells.{value_in}
-use Rattle.slot_carriers.proofs.Halving.{either}
+use Rattle.std.proofs.lemmas.Bool.{cases_lt}
 use Rattle.points.specs.Points.{primed_slot}
 
 -- the first n of an array of slots have the first values, number t that of the slot f t
@@ -24,7 +24,7 @@ pub record Filling (cells : List ℕ) (n m : ℕ) (arrays : List (List ℤ)) : T
 
 firsts-next : (cells : List ℕ) (f : ℕ → ℕ) (n : ℕ) (x : ℤ) (a b : List ℤ) → n < 64 → FirstsIn cells f n a → b ≡ set a n x → x ≡ value_in cells (f n) 0
     → FirstsIn cells f (n + 1) b
-firsts-next cells f n x a b low w e v = record { long = ap length e ∙ length-set a n x ∙ w.long; each = λ t h. go t h (either t n) }
+firsts-next cells f n x a b low w e v = record { long = ap length e ∙ length-set a n x ∙ w.long; each = λ t h. go t h (cases_lt t n) }
   where
     apart : (t : ℕ) → t < n → t ≡ n → ⊥
     apart t g q = omega arith

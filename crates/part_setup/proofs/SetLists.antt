@@ -10,7 +10,7 @@ use Rattle.slot_carriers.specs.Cells.{count_in, shape_in, first_in}
 use Rattle.slot_carriers.specs.CellGroups.{CellsOf}
 use Rattle.slot_carriers.specs.TypeNodes.{ListBetween}
 use Rattle.slot_carriers.specs.DeclaredGroups.{Declared, CellsMade, Copied}
-use Rattle.slot_carriers.proofs.Halving.{either}
+use Rattle.std.proofs.lemmas.Bool.{cases_lt}
 use Rattle.slot_carriers.proofs.KeptCells.{SameCell, same-between, cells-again, copied-cell, copied-cells, beside-made, kept-cells}
 use Rattle.readings.specs.Readings.{GroupAt}
 use Rattle.part_setup.specs.SetupPromises.{Blank, FirstValues}
@@ -54,7 +54,7 @@ module _ (table groups : List ℕ) (p n slot at : ℕ) (old new : List ℕ) (r :
       record { behind = λ q. omega (arith, b.behind q); before = b.before }
 
   pub made-lists : ListsBelow new r
-  made-lists = record { each = λ s h. list_at s h (either s slot) (either s (slot + n)) }
+  made-lists = record { each = λ s h. list_at s h (cases_lt s slot) (cases_lt s (slot + n)) }
 
   -- the cells of another group
   pub made-beside : (s : ℕ) (vs : List Variable) → s + length vs ≤ 64 → (s + length vs ≤ slot) ⊎ (slot + n ≤ s) → CellsOf old s vs → CellsOf new s vs
@@ -92,7 +92,7 @@ module _ (n base to : ℕ) (old new : List ℕ) (c : Copied n base to old new) (
       subst (λ (i : ℕ). ListBetween new i 256 r) e (copied-between j (omega arith))
 
   pub copy_lists : ListsBelow new r
-  copy_lists = record { each = λ s h. copy_at s h (either s to) (either s (to + n)) }
+  copy_lists = record { each = λ s h. copy_at s h (cases_lt s to) (cases_lt s (to + n)) }
 
   -- the cells of another group
   pub copy-beside : (s : ℕ) (vs : List Variable) → s + length vs ≤ 64 → (s + length vs ≤ to) ⊎ (to + n ≤ s) → CellsOf old s vs → CellsOf new s vs

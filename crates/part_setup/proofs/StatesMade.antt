@@ -99,6 +99,15 @@ states-set table groups cells r w = record { made = w.made; first_values = first
 
 -- ---- an operation's parameters, behind the states
 
+-- a group of a state, before the parameters that are made or behind all of them, keeps its cells
+made-past : (table groups : List ℕ) (p n slot at : ℕ) (old new : List ℕ) (r : ℕ) → CellsMade table groups p n slot at old new r → slot + n ≤ 22 → 256 ≤ at → ListsBelow old at
+    → (s : ℕ) (vs : List Variable) → s + length vs ≤ 64 → (s + length vs ≤ slot) ⊎ (22 ≤ s) → CellsOf old s vs → CellsOf new s vs
+made-past table groups p n slot at old new r m fit behind lists s vs h side w = made-beside table groups p n slot at old new r m (omega arith) behind lists s vs h (which side) w
+  where
+    which : (s + length vs ≤ slot) ⊎ (22 ≤ s) → (s + length vs ≤ slot) ⊎ (slot + n ≤ s)
+    which (inl g) = inl g
+    which (inr g) = inr (omega (arith, fit))
+
 module _ (table groups : List ℕ) (row : ℕ) (asked : OperationAsked table groups row) (c1 : List ℕ) (lists : ℕ) (ready : StatesReady table groups c1 lists) where
   few-inputs : get_or groups row 0 ≤ 3
   few-inputs = omega (arith, asked.inputs.count, asked.inputs.short)
@@ -129,22 +138,11 @@ module _ (table groups : List ℕ) (row : ℕ) (asked : OperationAsked table gro
       lists-out : ListsBelow c3 end
       lists-out = made-lists table groups (row + 4 + 1) (get_or groups (row + 4) 0) 19 more c2 c3 end m3 (omega (arith, few_outputs)) onward lists-in
 
-      -- a group of a state, before the inputs or behind the outputs
       past-inputs : (s : ℕ) (vs : List Variable) → s + length vs ≤ 64 → (s + length vs ≤ 16) ⊎ (22 ≤ s) → CellsOf c1 s vs → CellsOf c2 s vs
-      past-inputs s vs h side w =
-          made-beside table groups (row + 1) (get_or groups row 0) 16 lists c1 c2 more m2 (omega (arith, few-inputs)) ready.from ready.lists s vs h (which side) w
-        where
-          which : (s + length vs ≤ 16) ⊎ (22 ≤ s) → (s + length vs ≤ 16) ⊎ (16 + get_or groups row 0 ≤ s)
-          which (inl g) = inl g
-          which (inr g) = inr (omega (arith, few-inputs))
+      past-inputs = made-past table groups (row + 1) (get_or groups row 0) 16 lists c1 c2 more m2 (omega (arith, few-inputs)) ready.from ready.lists
 
       past-outputs : (s : ℕ) (vs : List Variable) → s + length vs ≤ 64 → (s + length vs ≤ 19) ⊎ (22 ≤ s) → CellsOf c2 s vs → CellsOf c3 s vs
-      past-outputs s vs h side w =
-          made-beside table groups (row + 4 + 1) (get_or groups (row + 4) 0) 19 more c2 c3 end m3 (omega (arith, few_outputs)) onward lists-in s vs h (which side) w
-        where
-          which : (s + length vs ≤ 19) ⊎ (22 ≤ s) → (s + length vs ≤ 19) ⊎ (19 + get_or groups (row + 4) 0 ≤ s)
-          which (inl g) = inl g
-          which (inr g) = inr (omega (arith, few_outputs))
+      past-outputs = made-past table groups (row + 4 + 1) (get_or groups (row + 4) 0) 19 more c2 c3 end m3 (omega (arith, few_outputs)) onward lists-in
 
       plain : (s : ℕ) (vs : List Variable) → s + length vs ≤ 16 → CellsOf c1 s vs → CellsOf c3 s vs
       plain s vs h w = past-outputs s vs (omega arith) (inl (omega arith)) (past-inputs s vs (omega arith) (inl h) w)

@@ -153,14 +153,8 @@ fn applicability_part(d: &Dossier<'_>, row: usize, cells: &[u32; CELLS]) -> Part
         inputs: s.inputs,
         outputs: NONE,
         primes: NONE,
-        readying: GroupSize {
-            variables: s.outputs.variables + s.abstracts.variables,
-            bindings: s.outputs.bindings * s.abstracts.bindings,
-        },
-        meeting: GroupSize {
-            variables: s.outputs.variables + s.concretes.variables,
-            bindings: s.outputs.bindings * s.concretes.bindings,
-        },
+        readying: s.outputs.with(s.abstracts),
+        meeting: s.outputs.with(s.concretes),
         conclusion: Conclusion::OfState,
     }
 }
@@ -177,10 +171,7 @@ fn correctness_part(d: &Dossier<'_>, row: usize, cells: &[u32; CELLS]) -> Part
         inputs: s.inputs,
         outputs: s.outputs,
         primes: s.concretes,
-        readying: GroupSize {
-            variables: s.outputs.variables + s.abstracts.variables,
-            bindings: s.outputs.bindings * s.abstracts.bindings,
-        },
+        readying: s.outputs.with(s.abstracts),
         meeting: s.abstracts,
         conclusion: Conclusion::OfStep,
     }

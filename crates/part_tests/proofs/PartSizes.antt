@@ -9,7 +9,7 @@ use lib.ListN.{length, get_elem?}
 use Rattle.form.specs.Tree.{Operation, Dossier}
 use Rattle.obligations.specs.Subjects.{subject_of}
 use Rattle.obligations.specs.Order.{total}
-use Rattle.obligations.proofs.Digits.{abstracts, concretes, givens, results, applicability_size, correctness_size, size_of_first, start_of, length-opening, total-ends}
+use Rattle.obligations.proofs.Digits.{abstracts, concretes, givens, results, applicability_size, correctness_size, size_of_first, length-opening, total-ends}
 
 -- the most places that an operation's two parts can have: 2 ^ 30 and 2 ^ 48
 small-applicability : (a c i : ℕ) → a ≤ 4096 → c ≤ 4096 → i ≤ 64 → a * c * i ≤ 1073741824
@@ -48,7 +48,3 @@ module _ (d : Dossier) where
   first-within zero ops = omega arith
   first-within (suc j) [] = omega arith
   first-within (suc j) (op ∷ ops) = both-more (applicability_size d op + correctness_size d op) (size_of_first d j ops) (size_of_first d (length ops) ops) (first-within j ops)
-
-  -- each operation begins among the places, and its parts end there
-  pub start_small : (j : ℕ) → start_of (subject_of d) j ≤ total (subject_of d)
-  start_small j = omega (arith, first-within j d.operations, total-ends (subject_of d))

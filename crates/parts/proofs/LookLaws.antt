@@ -32,7 +32,8 @@ use Rattle.parts.proofs.PartOrderLaws.{first-size, first-begin, applicability-si
 use Rattle.parts.proofs.ReadingSizes.{concretes-count, givens-count, results-count, applicability-counts, correctness-counts}
 use Rattle.parts.proofs.SizedParts.{opening-sized, applicability-sized, correctness-sized}
 use Rattle.parts.specs.SearchPromises.{OpeningReady, ApplicabilityReady, CorrectnessReady, PartFor, PartReady}
-use Rattle.parts.proofs.SetupLaws.{opening-counts, OperationLook, us, cs, is, os, operation-counts, applicability-is, correctness-is, outputs-by-part}
+use Rattle.part_setup.proofs.AskedParts.{opening-counts}
+use Rattle.parts.proofs.SetupLaws.{OperationLook, us, cs, is, os, operation-counts, applicability-is, correctness-is, outputs-by-part}
 
 -- the cells of a dossier's variables, by the lists of its variables
 pub state-cells : {cells : List ℕ} {d : Dossier} → made.StateCells cells (unprimed d d.abstract) (unprimed d d.concrete) → StatesCelled cells d
@@ -61,7 +62,7 @@ pub opening-ready : {table rows firsts groups plan cells : List ℕ} {p : Part} 
 opening-ready {table} {plan = plan} {cells = cells} r = record {
   first_values = r.cells_set.first_values;
   is_part = λ d R h.
-      let c = opening-counts R r.cells_set in
+      let c = opening-counts R.abstracts R.concretes r.cells_set in
       subst (λ (z : Part). PartFor table plan cells z d 0) (sym (r.part_is.is (unprimed d d.abstract) (unprimed d d.concrete) c))
       (opening-here R (state-cells c.cells_are) r.plan_is);
 }

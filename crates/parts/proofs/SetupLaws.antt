@@ -15,7 +15,7 @@ use Rattle.part_setup.specs.PartTestsPartGroups.{applicability_part, correctness
 use Rattle.part_setup.specs.ReadingsReadings.{ReadingOf}
 use Rattle.nest.proofs.MemoMemos.{all-zero}
 use Rattle.part_searches.proofs.NestParts.{common-rows, operation-rows}
-use Rattle.part_setup.specs.SetupPromises.{Blank, StatesAsked, StatesSet, OperationAsked, OperationSet, OpeningCounts, OperationCounts, ApplicabilityPartIs, CorrectnessPartIs}
+use Rattle.part_setup.specs.SetupPromises.{Blank, StatesAsked, OperationAsked, OperationSet, OperationCounts, ApplicabilityPartIs, CorrectnessPartIs}
 use Rattle.part_setup.proofs.AskedParts as part
 use Rattle.parts.specs.SearchPromises.{LookAsked, PartReady}
 
@@ -31,18 +31,11 @@ module _ {table rows firsts groups : List ℕ} {k m : ℕ} where
   pub ready-as : {plan cells : List ℕ} {p : Part} → PartReady table rows firsts groups m plan cells p → k ≡ m → PartReady table rows firsts groups k plan cells p
   ready-as {plan} {cells} {p} r e = subst (λ (n : ℕ). PartReady table rows firsts groups n plan cells p) (sym e) r
 
-states-asked : {table rows firsts groups : List ℕ} {d : Dossier} → ReadingOf table rows firsts groups d → StatesAsked table groups
-states-asked {d = d} R = record { abstractly = unprimed d d.abstract; concretely = unprimed d d.concrete; abstracts = R.abstracts; concretes = R.concretes }
-
 -- ---- initialisation
-
-pub opening-counts : {table rows firsts groups cells : List ℕ} {d : Dossier} → ReadingOf table rows firsts groups d → StatesSet table groups cells
-    → OpeningCounts groups cells (unprimed d d.abstract) (unprimed d d.concrete)
-opening-counts R s = part.opening-counts R.abstracts R.concretes s
 
 module _ {table rows firsts groups : List ℕ} {k : ℕ} (a : LookAsked table rows firsts groups k) where
   pub opening-cells-asked : StatesAsked table groups
-  opening-cells-asked = states-asked a.reading
+  opening-cells-asked = part.states-asked a.reading.abstracts a.reading.concretes
 
   pub opening-rows : CommonRows rows firsts
   opening-rows = common-rows a.reading.tests
@@ -86,14 +79,8 @@ module _ {table rows firsts groups : List ℕ} {j : ℕ} (x : OperationLook tabl
   operation-low = let h = entry-below x.operation x.dossier.operations j x.listed in omega (arith, x.reading.operations)
 
   pub operation-cells-asked : OperationAsked table groups (18 + 8 * j)
-  operation-cells-asked = record {
-    states = states-asked x.reading;
-    inward = is;
-    outward = os;
-    row_low = omega (arith, operation-low);
-    inputs = x.reading.inputs_at j x.operation x.listed;
-    outputs = x.reading.outputs_at j x.operation x.listed;
-  }
+  operation-cells-asked =
+      part.operation-asked x.reading.abstracts x.reading.concretes (omega (arith, operation-low)) (x.reading.inputs_at j x.operation x.listed) (x.reading.outputs_at j x.operation x.listed)
 
   module _ {cells : List ℕ} (s : OperationSet table groups (18 + 8 * j) cells) where
     pub operation-counts : OperationCounts groups (18 + 8 * j) cells us cs is os

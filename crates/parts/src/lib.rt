@@ -1,6 +1,6 @@
 // The parts of a check one after the other, initialisation, then for each operation applicability and correctness: the search from one place up to another.
 // Form 5: that `from ≤ end` stands in three contracts. A struct of both with that as its invariant is seven lines for the three clauses, and its order has to
-// be shown at each of the two literals that make one, where the clause is shown at each of the two calls now.
+// be shown at each of the four literals that make one (three for `search`, in the crates above, and one for `look`), where the clause is shown at each of these four calls now.
 #![tactic(auto)]
 
 ghost use Rattle.std.specs.Prelude.{◌^◌, ◌<◌, ◌≤◌};

@@ -1,7 +1,7 @@
 // Groups of variables: their names, their values one behind the other or in columns.
 ghost use Rattle.std.specs.Prelude.{◌≤◌};
 
-use crate::{SPACE, Source};
+use crate::Source;
 use labels::{GROUPS, TITLES, VARIABLE, VARIABLES_FROM};
 use lexical::bounds::{NAME_LETTERS, OPERATIONS};
 use lexical::classes::run_from;
@@ -9,7 +9,7 @@ use lines::{Group, LINE, SLOTS, Side, byte_of, put_group};
 use pieces::Writer;
 use search_groups::groups::OPERATION_ROWS;
 use sheets::Sheet;
-use text_places::{Span, before, part};
+use text_places::{SPACE, Span, before, part};
 
 // The columns of the two sides.
 // Form 1: these and the next are columns and an indent, no kinds.

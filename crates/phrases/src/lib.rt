@@ -10,7 +10,7 @@ pub use lines::SLOTS;
 use lines::Side;
 use pages::{Counts, Item};
 use sheets::Sheet;
-use text_places::{Span, line_start, part};
+use text_places::{NEWLINE, SPACE, Span, line_start, part};
 
 mod groups;
 mod inserts;
@@ -29,25 +29,14 @@ const TILDE: u8 = b'~';
 
 const PLACE: &[u8] = b"$";
 
-const SPACE: u8 = b' ';
-
-const NEWLINE: u8 = b'\n';
-
 // Behind the next newline.
 fn next_line(words: &[u8], from: usize) -> usize {
-    match part(
-        words,
-        Span {
-            from,
-            to: words.len(),
-        },
-    )
-    .iter()
-    .position(|b| *b == NEWLINE)
-    {
-        Some(k) => from + k + 1,
-        None => words.len(),
-    }
+    words
+        .get(from..)
+        .unwrap_or(&[])
+        .iter()
+        .position(|b| *b == NEWLINE)
+        .map_or(words.len(), |k| from + k + 1)
 }
 
 // The words of the n-th phrase: behind the n-th tilde's line, up to the next tilde.
@@ -99,8 +88,7 @@ fn put_insert(insert: Insert, indent: usize, e: &Item, pen: &mut Pen<'_>) {
             s.group(Side::Abstract, e.operation),
             s.group(Side::Concrete, e.operation),
         ),
-        Insert::Where(_) => (),
-        Insert::Nothing => (),
+        Insert::Where(_) | Insert::Nothing => (),
     }
 }
 
@@ -122,10 +110,7 @@ fn width_of(insert: Insert, words: &[u8], k: usize, operation: usize, s: &Source
             }
             2
         }
-        Insert::Values(_) => 2,
-        Insert::Names(_) => 2,
-        Insert::Column(_, _) => 2,
-        Insert::Nothing => 2,
+        Insert::Values(_) | Insert::Names(_) | Insert::Column(_, _) | Insert::Nothing => 2,
         _ => 1,
     }
 }

@@ -3,11 +3,10 @@ ghost use Rattle.std.specs.Prelude.{◌≡◌, Some, None};
 
 use crate::groups::has_bit;
 use crate::words::SPELLINGS;
-use crate::{NEWLINE, SPACE};
 use lexical::Ending;
 use lines::byte_of;
 use sheets::Sheet;
-use text_places::{Span, before, line_start, part};
+use text_places::{NEWLINE, SPACE, Span, before, line_start, part};
 
 // How many codes of symbols there are.
 // Form 1: the constants from here on are a count and widths.
@@ -45,7 +44,7 @@ pub(crate) fn put_symbols(bits: usize, indent: usize, out: &mut Sheet) {
     for k in 0..CODES {
         if has_bit(bits, k) {
             out.put(SPACE, indent);
-            out.flow(word(&SPELLINGS, k), indent);
+            out.flow(word(SPELLINGS, k), indent);
         }
     }
 }

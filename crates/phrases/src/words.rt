@@ -206,7 +206,7 @@ pub const NOT_COMPARED: usize = 98;
 
 pub const PROMISES_LEFT_OUT: usize = 99;
 
-pub const WORDS: [u8; 8430] = *b"
+pub const WORDS: &[u8] = b"
 ~ refuted initialisation
 refuted initialisation
 ~ refuted applicability
@@ -460,5 +460,5 @@ There are over $n bindings, and $m are allowed.
 ~";
 
 // The symbols by their codes, from 1 on, a space behind each; four codes stand for none.
-pub const SPELLINGS: [u8; 266] =
-    *b"NUMBER NAME NAME' NAME? NAME! - - - - : ; , | @ ( ) [ ] { } .. = /= < <= => <=> + - * # |-> <-> -+> --> contents given abstract concrete ainit cinit retrieve op end where P empty true false not and or forall exists exists1 in notin union minus inter div mod dom ran ";
+pub const SPELLINGS: &[u8] =
+    b"NUMBER NAME NAME' NAME? NAME! - - - - : ; , | @ ( ) [ ] { } .. = /= < <= => <=> + - * # |-> <-> -+> --> contents given abstract concrete ainit cinit retrieve op end where P empty true false not and or forall exists exists1 in notin union minus inter div mod dom ran ";

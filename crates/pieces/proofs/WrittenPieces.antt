@@ -18,6 +18,10 @@ use Rattle.table_nodes.proofs.Pieces.{patch-none, patch-set, patch-behind, patch
 use Rattle.pieces.specs.PiecePromises.{Writes, Adds, letters_at}
 use Rattle.pieces.specs.declared.Writer.{Writer}
 
+-- a piece as another list that is the same
+pub piece_is : {p q : List ℕ} {v w : Writer} → p ≡ q → Adds p v w → Adds q v w
+piece_is {v = v} {w} e a = subst (λ (s : List ℕ). Adds s v w) e a
+
 -- no byte
 pub nothing_added : (v : Writer) → Adds [] v v
 nothing_added v = record { same_bytes = refl; written = record { written = sym (patch-none v.at v.out.now); end = sym (add-zero v.at); long = refl } }
@@ -99,9 +103,9 @@ module _ (text : List ℕ) (p : ℕ) {l n : ℕ} (is : l ≡ length (run (drop p
   pub no_letters : n ≤ 0 → {v : Writer} → Adds (letters_at text p) v v
   no_letters e {v} =
       let z : n ≡ 0 = omega arith in
-      subst (λ (w : List ℕ). Adds w v v) (ap (λ (k : ℕ). take k (drop p text)) (sym z) ∙ letters-same) (nothing_added v)
+      piece_is (ap (λ (k : ℕ). take k (drop p text)) (sym z) ∙ letters-same) (nothing_added v)
 
   pub some-letters : {v w : Writer} → Adds (take (p + n - p) (drop p text)) v w → Adds (letters_at text p) v w
-  some-letters {v} {w} a =
+  some-letters a =
       let z : p + n - p ≡ n = omega arith in
-      subst (λ (s : List ℕ). Adds s v w) (ap (λ (k : ℕ). take k (drop p text)) z ∙ letters-same) a
+      piece_is (ap (λ (k : ℕ). take k (drop p text)) z ∙ letters-same) a

@@ -9,9 +9,6 @@ use itoa::{Buffer, Integer};
 use lexical::bounds::NAME_LETTERS;
 use lexical::classes::run_from;
 
-// The greatest length of a number in decimal.
-pub const DIGITS: usize = 20;
-
 // Lent bytes, and the place behind what stands in them: each method writes from there on and touches no other byte.
 #[derive(Drop)]
 pub struct Writer<'a> {

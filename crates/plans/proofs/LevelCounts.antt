@@ -11,7 +11,8 @@ use borrow.Author.Tests.{lt-ltb, le-ltb, eqb-true, eqb-false, eq-eqb, ne_eqb}
 use Rattle.plans.specs.PlansByNumber.{Asking, level_of, entry_of, entries_from, entries_of, search_entries, Rows, no_asking}
 use Rattle.plans.specs.declared.Asked.{Asked}
 use Rattle.plans.specs.PlanWriting.{asked_in, RowIn, Appended, count_below, count_of}
-use Rattle.plans.proofs.Segments.{either, appended-none, appended_one, appended-both}
+use Rattle.std.proofs.lemmas.Bool.{cases_lt}
+use Rattle.plans.proofs.Segments.{appended-none, appended_one, appended-both}
 
 -- ---- the level and the conjunct of one row
 
@@ -28,11 +29,11 @@ module _ (rows : List ℕ) (p : Asking) (r : ℕ) where
   unfolding level_of
   level-first x y e h k f = rw (level_of, eq-eqb (get_or rows (r + p.second) 0) 0 (sym e ∙ h), ne_eqb p.first 0 k) f
 
-  entries-here : (l n : ℕ) → level_of rows p r ≡ l → entries_from rows p l (suc n) r ≡ entry_of rows p r ∷ entries_from rows p l n (r + 8)
+  pub entries-here : (l n : ℕ) → level_of rows p r ≡ l → entries_from rows p l (suc n) r ≡ entry_of rows p r ∷ entries_from rows p l n (r + 8)
   unfolding entries_from
   entries-here l n e = rw (entries_from, eq-eqb (level_of rows p r) l e) refl
 
-  entries-past : (l n : ℕ) → (level_of rows p r ≡ l → ⊥) → entries_from rows p l (suc n) r ≡ entries_from rows p l n (r + 8)
+  pub entries-past : (l n : ℕ) → (level_of rows p r ≡ l → ⊥) → entries_from rows p l (suc n) r ≡ entries_from rows p l n (r + 8)
   unfolding entries_from
   entries-past l n e = rw (entries_from, ne_eqb (level_of rows p r) l e) refl
 
@@ -99,7 +100,7 @@ module _ (rows : List ℕ) (p : Asking) (n r : ℕ) where
 
   next_row : (l : ℕ) → count_below rows p l n (r + 8) + length (entries_from rows p l n (r + 8)) ≡ count_below rows p (l + 1) n (r + 8)
       → count_below rows p l (suc n) r + length (entries_from rows p l (suc n) r) ≡ count_below rows p (l + 1) (suc n) r
-  next_row l e = below (either (level_of rows p r) l)
+  next_row l e = below (cases_lt (level_of rows p r) l)
     where
       behind : (l < level_of rows p r) ⊎ (level_of rows p r ≤ l) → l ≤ level_of rows p r
           → count_below rows p l (suc n) r + length (entries_from rows p l (suc n) r) ≡ count_below rows p (l + 1) (suc n) r
@@ -109,10 +110,10 @@ module _ (rows : List ℕ) (p : Asking) (n r : ℕ) where
       below : (level_of rows p r < l) ⊎ (l ≤ level_of rows p r)
           → count_below rows p l (suc n) r + length (entries_from rows p l (suc n) r) ≡ count_below rows p (l + 1) (suc n) r
       below (inl h) = omega (arith, e, count-here l h, count-here (l + 1) (omega arith), entry_past l (λ q. omega arith))
-      below (inr h) = behind (either l (level_of rows p r)) h
+      below (inr h) = behind (cases_lt l (level_of rows p r)) h
 
   few-row : (l : ℕ) → count_below rows p l n (r + 8) ≤ n → count_below rows p l (suc n) r ≤ suc n
-  few-row l h = go (either (level_of rows p r) l)
+  few-row l h = go (cases_lt (level_of rows p r) l)
     where
       go : (level_of rows p r < l) ⊎ (l ≤ level_of rows p r) → count_below rows p l (suc n) r ≤ suc n
       go (inl k) = omega (arith, count-here l k)
@@ -215,11 +216,6 @@ module _ (rows : List ℕ) (ps : List Asked) (l : ℕ) where
         → Appended (search_entries rows (asked_in ps 0) (asked_in ps 1) (asked_in ps 2) l) at old new b
     appended-end i b new h k few s =
         subst (λ (xs : List ℕ). Appended xs at old new b) (entries-all i (omega arith) (omega arith)) s
-
-pub asked-same : (ps : List Asked) (i : ℕ) (a b : Asked) → i < length ps → get_or ps i a ≡ get_or ps i b
-asked-same [] i a b h = absurd (omega arith)
-asked-same (p ∷ ps) zero a b h = refl
-asked-same (p ∷ ps) (suc i) a b h = asked-same ps i a b (omega arith)
 
 -- ---- what is appended, row by row and predicate by predicate
 

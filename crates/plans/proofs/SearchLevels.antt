@@ -10,7 +10,8 @@ use Rattle.points.specs.Searches.{mark_in}
 use Rattle.plans.specs.PlansByNumber.{Asking, search_entries}
 use Rattle.plans.specs.PlanPromises.{Segment}
 use Rattle.plans.specs.PlanWriting.{Appended, Room, Levelled, Laying, Headed}
-use Rattle.plans.proofs.Segments.{either, segment-kept}
+use Rattle.std.proofs.lemmas.Bool.{cases_lt}
+use Rattle.plans.proofs.Segments.{segment-kept}
 use Rattle.plans.proofs.LevelCounts.{counts-none, counts-few, counts-next}
 
 -- ---- one number is written
@@ -110,9 +111,9 @@ module _ (rows : List ℕ) (u : ℕ) (p q r : Asking) (at : ℕ) (old plan : Lis
     pub levelled-next : Levelled rows u p q r at (l + 1) n old new
     levelled-next =
         record {
-          levels = λ j h. level j (either j l) h;
-          low = λ j h. mark-low j (either j (l + 1)) h;
-          high = λ j h. mark-high j (either j (l + 1)) h;
+          levels = λ j h. level j (cases_lt j l) h;
+          low = λ j h. mark-low j (cases_lt j (l + 1)) h;
+          high = λ j h. mark-high j (cases_lt j (l + 1)) h;
           last = mark-new;
           count = omega (arith, v.count, a.written.long, counts-next rows p q r l);
           before = λ i h. kept i (λ f. omega arith) (omega (arith, onward, m.search_low)) ∙ v.before i h;

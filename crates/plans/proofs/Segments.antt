@@ -1,29 +1,20 @@
 -- Lists that stand between two places of a plan: one behind the other, and kept where the places below are as they were. Assumes nothing.
 use mathlib.Core.Path.{◌≡◌, refl, sym, ap, ◌∙◌}
 use mathlib.Core.Logic.{◌⊎◌, inl, inr}
-use mathlib.Core.Bool.{Bool, true, false}
 use mathlib.Core.List.{List, [], ◌∷◌, ◌++◌}
 use Prim.Native.Nat.{ℕ, ◌+◌, ◌-◌, ◌<◌, ◌≤◌}
 use native.Mathlib.Omega.{arith}
-use lib.Dec.{ltb}
 use lib.ListN.{get_or, length, set, length-append, length-set, get_or-append}
 use lib.Seq.{get_or-append-add, get_or-set_same, get_or-set_other}
-use borrow.Author.Tests.{ltb-true, ltb-false}
+use Rattle.std.proofs.lemmas.Bool.{cases_lt}
 use Rattle.plans.specs.PlanPromises.{Segment}
 use Rattle.plans.specs.PlanWriting.{Appended}
-
-pub either : (a b : ℕ) → (a < b) ⊎ (b ≤ a)
-either a b = go (ltb a b) refl
-  where
-    go : (t : Bool) → ltb a b ≡ t → (a < b) ⊎ (b ≤ a)
-    go true e = inl (ltb-true a b e)
-    go false e = inr (ltb-false a b e)
 
 segment-none : (plan : List ℕ) (a : ℕ) → Segment plan a a []
 segment-none plan a = record { long = omega arith; each = λ i h. absurd (omega arith) }
 
 segment-both : (plan : List ℕ) (a b c : ℕ) (xs ys : List ℕ) → Segment plan a b xs → Segment plan b c ys → Segment plan a c (xs ++ ys)
-segment-both plan a b c xs ys s t = record { long = omega (arith, length-append xs ys, s.long, t.long); each = λ i h. go i h (either i (length xs)) }
+segment-both plan a b c xs ys s t = record { long = omega (arith, length-append xs ys, s.long, t.long); each = λ i h. go i h (cases_lt i (length xs)) }
   where
     go : (i : ℕ) → i < length (xs ++ ys) → (i < length xs) ⊎ (length xs ≤ i) → get_or plan (a + i) 0 ≡ get_or (xs ++ ys) i 0
     go i h (inl k) = s.each i k ∙ sym (get_or-append xs ys 0 i k)

@@ -153,6 +153,10 @@ pub data Primes : List Variable → List Variable → Type 0 where
   more_primes : {v : Variable} {vs us : List Variable} → Primes vs us
       → Primes (v ∷ vs) (record { called = record { letters = v.called.letters; ending = prime }; carrier = v.carrier } ∷ us)
 
+pub primes-long : {vs us : List Variable} → Primes vs us → length us ≡ length vs
+primes-long no_primes = refl
+primes-long (more_primes r) = ap suc (primes-long r)
+
 -- a type at fault has no variable in either list
 declared-primes : (gs : List Given) (ds : List Declaration) → Primes (variables gs no_ending ds) (variables gs prime ds)
 unfolding variables

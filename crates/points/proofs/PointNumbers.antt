@@ -9,9 +9,10 @@ use native.Mathlib.Decide.{ℕ_discrete}
 use native.Mathlib.Omega.{arith}
 use borrow.Author.Tests.{eq-eqb, ne_eqb, lt-ltb, le-ltb}
 use lib.Arith.{digits_lt, digits_div, digits_mod, mod-mul, lt-one}
-use lib.Dec.{eqb, ltb}
+use lib.Dec.{ltb}
 use Rattle.lexical.specs.Lists.{any, upward}
 use Rattle.meaning.specs.Bindings.{Among}
+use Rattle.meaning.proofs.Members.{any-put}
 use Rattle.meaning.proofs.UpwardNumbers.{among-upward}
 use Rattle.slot_carriers.specs.Cells.{count_in}
 use Rattle.points.specs.Points.{Point, moved, span, number_of, placed, Tame, Beside, Apart, Distinct, more_slots, no_slots}
@@ -29,6 +30,7 @@ pub counts-first : (cells : List ℕ) (s : ℕ) (ss : List ℕ) → Counts cells
 unfolding Among
 counts-first cells s ss c = c s (inl refl)
 
+-- Form 8: by `Distinct` of specs/Points, since specs/ cites nothing of proofs/, where meaning/proofs/Distinct has its own; both are by recursion on a list of numbers and `among-upward`.
 pub distinct-upward : (k n : ℕ) → Distinct (upward k n)
 unfolding upward
 distinct-upward k zero = no_slots
@@ -40,19 +42,13 @@ beside-twice u v = record { same = λ s m. v.same s m ∙ u.same s m }
 
 -- ---- one slot is moved
 
-cond_true : {A : Type 0} (t : Bool) (x y : A) → t ≡ true → cond t x y ≡ x
-cond_true t x y e = ap (λ (b : Bool). cond b x y) e
-
-cond_false : {A : Type 0} (t : Bool) (x y : A) → t ≡ false → cond t x y ≡ y
-cond_false t x y e = ap (λ (b : Bool). cond b x y) e
-
 pub moved_here : (δ : Point) (s x : ℕ) → moved δ s x s ≡ x
 unfolding moved
-moved_here δ s x = cond_true (eqb s s) x (δ s) (eq-eqb s s refl)
+moved_here δ s x = ap (λ (b : Bool). cond b x (δ s)) (eq-eqb s s refl)
 
 pub moved_other : (δ : Point) (s x t : ℕ) → (t ≡ s → ⊥) → moved δ s x t ≡ δ t
 unfolding moved
-moved_other δ s x t n = cond_false (eqb t s) x (δ t) (ne_eqb t s n)
+moved_other δ s x t n = ap (λ (b : Bool). cond b x (δ t)) (ne_eqb t s n)
 
 -- to the value that it has
 moved_same : (δ : Point) (s x t : ℕ) → x ≡ δ s → moved δ s x t ≡ δ t
@@ -196,17 +192,9 @@ placed-number cells (s ∷ ss) δ τ c t =
 
 -- ---- what is found among numbers
 
-any_here : (f : ℕ → Bool) (x : ℕ) (xs : List ℕ) → f x ≡ true → any f (x ∷ xs) ≡ true
-unfolding any
-any_here f x xs e = rw (e, any)
-
-any-there : (f : ℕ → Bool) (x : ℕ) (xs : List ℕ) → f x ≡ false → any f (x ∷ xs) ≡ any f xs
-unfolding any
-any-there f x xs e = rw (e, any)
-
 some-from : (f : ℕ → Bool) (k n r : ℕ) → k ≤ r → r ≤ k + n → ((i : ℕ) → k ≤ i → i < r → f i ≡ false) → (r < k + n → f r ≡ true)
     → any f (upward k n) ≡ ltb r (k + n)
-unfolding upward any
+unfolding upward any Among
 some-from f k zero r l h past found = sym (le-ltb r (k + 0) (omega arith))
 some-from f k (suc n) r l h past found = go (ℕ_discrete k r) (λ m. some-from f (suc k) n r m (omega arith) (λ i a b. past i (omega arith) b) (λ b. found (omega arith)))
   where
@@ -214,8 +202,8 @@ some-from f k (suc n) r l h past found = go (ℕ_discrete k r) (λ m. some-from 
     shift = omega arith
 
     go : Dec (k ≡ r) → (suc k ≤ r → any f (upward (suc k) n) ≡ ltb r (suc k + n)) → any f (k ∷ upward (suc k) n) ≡ ltb r (k + suc n)
-    go (yes e) on = any_here f k (upward (suc k) n) (ap f e ∙ found (omega arith)) ∙ sym (lt-ltb r (k + suc n) (omega arith))
-    go (no n') on = any-there f k (upward (suc k) n) (past k (omega arith) (omega arith)) ∙ on (omega arith) ∙ ap (ltb r) shift
+    go (yes e) on = any-put f k (k ∷ upward (suc k) n) (inl refl) (ap f e ∙ found (omega arith)) ∙ sym (lt-ltb r (k + suc n) (omega arith))
+    go (no n') on = rw (past k (omega arith) (omega arith), any) (on (omega arith) ∙ ap (ltb r) shift)
 
 -- some number passes exactly if the search from 0 did not come to the end
 pub sought-some : (f : ℕ → Bool) (w r : ℕ) → Sought f 0 w r → any f (upward 0 w) ≡ ltb r w

@@ -1,7 +1,7 @@
 -- Level by level is all at once: what a search finds by its tests in the order of their levels is found by all of them together, and a search over two groups of variables
 -- is one over the first and then, wherever it passes, one over the second. Assumes nothing.
 use mathlib.Core.Path.{◌≡◌, refl, sym, ap, ap₂, subst, ◌∙◌}
-use mathlib.Core.Bool.{Bool, true, false, ◌&&◌}
+use mathlib.Core.Bool.{Bool, true, false, ◌&&◌, and_self, and_self_left, and_assoc}
 use mathlib.Core.Logic.{inl, inr}
 use mathlib.Core.List.{List, [], ◌∷◌, ◌++◌}
 use Prim.Native.Nat.{ℕ, zero, suc, ◌+◌, ◌/◌, ◌%◌, ◌<◌, ◌≤◌}
@@ -37,22 +37,10 @@ unfolding levels_hold
 levels-same tests zero l δ ε h = h l (omega arith) (omega arith)
 levels-same tests (suc n) l δ ε h = ap₂ ◌&&◌ (h l (omega arith) (omega arith)) (levels-same tests n (l + 1) δ ε (λ m a b. h m (omega arith) (omega arith)))
 
-twice : (a : Bool) → a ≡ (a && a)
-twice true = refl
-twice false = refl
-
-once_more : (a b : Bool) → (a && b) ≡ (a && (a && b))
-once_more true b = refl
-once_more false b = refl
-
-regroup : (a b c : Bool) → (a && (b && c)) ≡ ((a && b) && c)
-regroup true b c = refl
-regroup false b c = refl
-
 again : (tests : Tests) (l n : ℕ) (δ : Point) → levels_hold tests l n δ ≡ (level_holds tests l δ && levels_hold tests l n δ)
 unfolding levels_hold
-again tests l zero δ = twice (level_holds tests l δ)
-again tests l (suc n) δ = once_more (level_holds tests l δ) (levels_hold tests (l + 1) n δ)
+again tests l zero δ = sym (and_self (level_holds tests l δ))
+again tests l (suc n) δ = sym (and_self_left (level_holds tests l δ) (levels_hold tests (l + 1) n δ))
 
 -- the levels of two groups are those of the first and those of the second; the level between them counts to both
 levels-append : (tests : Tests) (l : ℕ) (os ks : List ℕ) (δ : Point)
@@ -64,7 +52,7 @@ levels-append tests l (s ∷ os) ks δ =
     (levels-append tests (l + 1) os ks δ
     ∙ ap (λ (x : ℕ). levels_hold tests (l + 1) (length os) δ && levels_hold tests x (length ks) δ)
     (let z : l + 1 + length os ≡ l + suc (length os) = omega arith in z))
-    ∙ regroup (level_holds tests l δ) (levels_hold tests (l + 1) (length os) δ) (levels_hold tests (l + suc (length os)) (length ks) δ)
+    ∙ sym (and_assoc (level_holds tests l δ) (levels_hold tests (l + 1) (length os) δ) (levels_hold tests (l + suc (length os)) (length ks) δ))
 
 -- where a level l, from j on, does not depend on the slots from number l - j on, the tests asked on the way have the answers that they have at the placed point
 under_all : (cells : List ℕ) (tests : Tests) (j : ℕ) (ss : List ℕ) (δ : Point) (k : ℕ)

@@ -1,15 +1,16 @@
 -- The number of a pair of states and the numbers of the two states; bindings over the carriers and their numbers. Assumes nothing.
 use mathlib.Core.Path.{◌≡◌}
 use mathlib.Core.List.{List, []}
-use Prim.Native.Nat.{ℕ, zero, suc, ◌+◌, ◌*◌, ◌/◌, ◌%◌, ◌<◌, ◌≤◌}
-use native.Mathlib.Nat.{mod-lt, div-lt_iff_lt-mul, zero-lt-suc, mul-le-mul, le_refl}
+use Prim.Native.Nat.{ℕ, zero, suc, ◌+◌, ◌*◌, ◌/◌, ◌%◌, ◌<◌}
+use native.Mathlib.Nat.{mod-lt, div-lt_iff_lt-mul, zero-lt-suc}
+use lib.Arith.{digits_lt}
 use native.Mathlib.Omega.{arith}
 use lib.ListN.{length}
 use Rattle.static_rules.specs.Carriers.{Variable}
 use Rattle.meaning.specs.Meaning.{Binding}
 use Rattle.meaning.specs.Bindings.{bindings, Over}
-use Rattle.meaning.proofs.Bindings.{over-listed, listed-over}
-use Rattle.meaning.proofs.Places.{member-at, place-of}
+use Rattle.meaning.proofs.Bindings.{over-listed}
+use Rattle.meaning.proofs.Places.{place-of}
 use Rattle.meaning.proofs.Distinct.{distinct-places}
 use Rattle.meaning.proofs.Values.{distinct-bindings}
 use Rattle.step_searches.specs.PartTestsPartsByNumber.{nth}
@@ -23,14 +24,12 @@ pub low_digit : (q m n : ℕ) → q < m * n → q % n < n
 low_digit q m zero h = absurd (omega arith)
 low_digit q m (suc n) h = mod-lt q (zero-lt-suc n)
 
+-- Form 8: the library's `digits_lt` with its numbers written out, since answers give facts that do not determine them.
 pub pair_inside : (a c m n : ℕ) → a < m → c < n → a * n + c < m * n
-pair_inside a c m n h k = let l : suc a * n ≤ m * n = mul-le-mul {n₂ = m} {m₂ = n} h (le_refl n) in omega arith
+pair_inside a c m n h k = digits_lt h k
 
 -- a binding over the carriers has one number
 module _ (vs : List Variable) where
-  pub at-over : (k : ℕ) → k < length (bindings vs) → Over vs (nth (bindings vs) k)
-  at-over k h = listed-over vs (nth (bindings vs) k) (member-at (bindings vs) k [] h)
-
   pub over-at : (b : Binding) → Over vs b → (k : ℕ) × (k < length (bindings vs)) × (nth (bindings vs) k ≡ b)
   over-at b h = place-of b (bindings vs) [] (over-listed vs b h)
 

@@ -7,7 +7,8 @@ use Prim.Native.Nat.{ℕ, suc, ◌+◌, ◌*◌, ◌<◌}
 use native.Mathlib.Omega.{arith}
 use lib.Arith.{digits_div, digits_mod}
 use lib.ListN.{length, get_elem?}
-use Rattle.lexical.proofs.BooleanTests.{and_both, and_left, and_right}
+use Rattle.std.proofs.lemmas.Bool.{and_from}
+use Rattle.lexical.proofs.BooleanTests.{and_left, and_right}
 use Rattle.form.specs.Tree.{Operation, Dossier}
 use Rattle.static_rules.specs.Scope.{unprimed, inputs, outputs}
 use Rattle.meaning.specs.Meaning.{Binding, holds}
@@ -22,7 +23,8 @@ use Rattle.step_searches.specs.PartTestsPartsByNumber.{nth, abstract_at, concret
 use Rattle.reached_pairs.specs.Reached.{Reached}
 use Rattle.reached_pairs.specs.ReachedByNumber.{many_abstract, many_concrete, many_pairs, abstract_of, concrete_of, Begins, Leads, Goes, Chain, begun, gone}
 use Rattle.reached_pairs.proofs.JoinedRuns.{path-more, last_more, alike-more, entries-more}
-use Rattle.reached_pairs.proofs.PairNumbers.{high_digit, low_digit, pair_inside, at-over, over-at, at_once}
+use Rattle.step_searches.proofs.ConcreteStates.{at-over}
+use Rattle.reached_pairs.proofs.PairNumbers.{high_digit, low_digit, pair_inside, over-at, at_once}
 
 -- the tests by numbers, in the order in which they are asked
 and_first : (s t r : Bool) → (s && (t && r)) ≡ true → s ≡ true
@@ -93,7 +95,7 @@ module _ (d : Dossier) where
   -- related states are states
   related-is : (a c : Binding) → is_a a ≡ true → is_c c ≡ true → retrieved a c ≡ true → related d a c ≡ true
   unfolding related
-  related-is a c e f g = and_both (and_both e f) g
+  related-is a c e f g = and_from _ _ (and_from _ _ e f) g
 
   related-a : (a c : Binding) → related d a c ≡ true → is_a a ≡ true
   unfolding related
@@ -111,7 +113,7 @@ module _ (d : Dossier) where
 
   initial-a : (c : ℕ) (a : Binding) → initial_match d c a ≡ true → abstract_initial d a ≡ true
   unfolding initial_match abstract_initial
-  initial-a c a e = and_both (and_first (is_a a) (begun_a a) (retrieved a (concrete_at d c)) e) (and_second (is_a a) (begun_a a) (retrieved a (concrete_at d c)) e)
+  initial-a c a e = and_from _ _ (and_first (is_a a) (begun_a a) (retrieved a (concrete_at d c)) e) (and_second (is_a a) (begun_a a) (retrieved a (concrete_at d c)) e)
 
   initial-c : (c : ℕ) → initial d c ≡ true → concrete_initial d (concrete_at d c) ≡ true
   unfolding initial concrete_initial
@@ -153,12 +155,12 @@ module _ (d : Dossier) where
 
     lead-c : is_c (state_c x) ≡ true → concrete_step d op (state_c x) (input_at d op i) (output_at d op l.output) (state_c y) ≡ true
     unfolding concrete_step allows concretely
-    lead-c e = and_both (and_both e (and_left (is_c (state_c y)) stepped_c l.steps)) (and_right (is_c (state_c y)) stepped_c l.steps)
+    lead-c e = and_from _ _ (and_from _ _ e (and_left (is_c (state_c y)) stepped_c l.steps)) (and_right (is_c (state_c y)) stepped_c l.steps)
 
     lead-a : is_a (state_a x) ≡ true → abstract_step d op (state_a x) (input_at d op i) (output_at d op l.output) (state_a y) ≡ true
     unfolding abstract_step allows match
     lead-a e =
-        and_both (and_both e (and_first (is_a (state_a y)) (retrieved (state_a y) (state_c y)) stepped_a l.matched))
+        and_from _ _ (and_from _ _ e (and_first (is_a (state_a y)) (retrieved (state_a y) (state_c y)) stepped_a l.matched))
         (and-third (is_a (state_a y)) (retrieved (state_a y) (state_c y)) stepped_a l.matched)
 
     lead-related : related d (state_a y) (state_c y) ≡ true
@@ -261,8 +263,8 @@ module _ (d : Dossier) where
     matched-at : abstract_initial d (abstract_at d a) ≡ true → related d (abstract_at d a) (concrete_at d c) ≡ true → initial_match d c (abstract_at d a) ≡ true
     unfolding initial_match abstract_initial
     matched-at e r =
-        and_both (and_left (is_a (abstract_at d a)) (begun_a (abstract_at d a)) e)
-        (and_both (and_right (is_a (abstract_at d a)) (begun_a (abstract_at d a)) e) (related-r (abstract_at d a) (concrete_at d c) r))
+        and_from _ _ (and_left (is_a (abstract_at d a)) (begun_a (abstract_at d a)) e)
+        (and_from _ _ (and_right (is_a (abstract_at d a)) (begun_a (abstract_at d a)) e) (related-r (abstract_at d a) (concrete_at d c) r))
 
     begin-at : abstract_initial d (abstract_at d a) ≡ true → concrete_initial d (concrete_at d c) ≡ true → related d (abstract_at d a) (concrete_at d c) ≡ true → Begins d (pair_of a c)
     begin-at e f r = record {
@@ -276,15 +278,15 @@ module _ (d : Dossier) where
     unfolding concrete_step allows concretely
     concretely-at e =
         let p : Bool = holds op.concretely (environment d (concrete_at d c ++ after (concrete_at d k) ++ input_at d op i ++ output_at d op o)) in
-        and_both (and_right (is_c (concrete_at d c)) (is_c (concrete_at d k)) (and_left _ p e)) (and_right (is_c (concrete_at d c) && is_c (concrete_at d k)) p e)
+        and_from _ _ (and_right (is_c (concrete_at d c)) (is_c (concrete_at d k)) (and_left _ p e)) (and_right (is_c (concrete_at d c) && is_c (concrete_at d k)) p e)
 
     match-at : abstract_step d op (abstract_at d a) (input_at d op i) (output_at d op o) (abstract_at d m) ≡ true → related d (abstract_at d m) (concrete_at d k) ≡ true
         → match d op a i o k (abstract_at d m) ≡ true
     unfolding abstract_step allows match
     match-at e r =
         let p : Bool = holds op.abstractly (environment d (abstract_at d a ++ after (abstract_at d m) ++ input_at d op i ++ output_at d op o)) in
-        and_both (related-a (abstract_at d m) (concrete_at d k) r)
-        (and_both (related-r (abstract_at d m) (concrete_at d k) r) (and_right (is_a (abstract_at d a) && is_a (abstract_at d m)) p e))
+        and_from _ _ (related-a (abstract_at d m) (concrete_at d k) r)
+        (and_from _ _ (related-r (abstract_at d m) (concrete_at d k) r) (and_right (is_a (abstract_at d a) && is_a (abstract_at d m)) p e))
 
     module _ (j : ℕ) (listed : get_elem? d.operations j ≡ some op) (li : i < length (bindings (inputs d op))) (lo : o < length (output_bindings d op)) where
       goes_at : a < many_abstract d → c < many_concrete d → m < many_abstract d → k < many_concrete d

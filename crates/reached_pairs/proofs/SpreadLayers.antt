@@ -14,7 +14,7 @@ use Rattle.meaning.specs.Bindings.{bindings}
 use Rattle.meaning.proofs.Places.{below-entry}
 use Rattle.plans.specs.declared.Part.{Part}
 use Rattle.step_searches.specs.ReadingsReadings.{ReadingOf}
-use Rattle.step_searches.specs.StepPromises.{StepSearches, PrepareAsked, Prepared, ReadAsked}
+use Rattle.step_searches.specs.StepPromises.{StepSearches, PrepareAsked, Prepared}
 use Rattle.reached_pairs.specs.declared.marks.Mark.{Mark}
 use Rattle.reached_pairs.specs.Reached.{layer_of, mark_in, layer_in}
 use Rattle.reached_pairs.specs.ReachedByNumber.{many_pairs, Goes, Leads, Layered, Grown, Hits, MarkFrom, MayFrom, MustFrom, MustBelow, LayerCounted}
@@ -152,10 +152,6 @@ pairs-asked {j = j} q e f =
 
 pub operation-few : {table rows firsts groups : List ℕ} {j : ℕ} → PrepareAsked table rows firsts groups j → j < 16
 operation-few q = omega (arith, q.listed, q.reading.operations)
-
--- operations below the last one are listed
-pub layer_prepare : {table rows firsts groups : List ℕ} {operations j : ℕ} → ReadAsked table rows firsts groups operations → j < operations → PrepareAsked table rows firsts groups j
-layer_prepare q h = record { dossier = q.dossier; reading = q.reading; listed = omega (arith, q.many, h) }
 
 -- ---- layers
 

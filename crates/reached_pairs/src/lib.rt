@@ -1,6 +1,7 @@
 // The pairs of states that both machines of a dossier reach side by side, each with the shortest list of operations with inputs that leads to it. Layer by layer: the pairs of layer 1 are
 // the initial states; those of layer n + 1 are what the pairs of layer n lead to and what has no mark yet. There is no queue, and no layer is kept but in the marks.
-// Form 3: in the loops by `while` the next place is what a search answers, which is lent the memory that the body is lent too: an iterator would have to own it.
+// Form 3: in the loops by `while` the next place is what a search answers that writes the memory: in the closure of an iterator nothing is told of what it changes, as seen at
+// `step_facts::runs::step_from`, and `remembers` says what the memory is behind the loop.
 // Form 5: that the pairs have room is asked of five functions: as the invariant of a struct around `StepSearch` it would be opened by a line of its own in
 // each, and its `Model` is as long as the clauses are. Memory and marks are lent for a call, and in one struct each function would have to promise the
 // other's part of it unchanged. A type for a low number of a pair, an operation or a layer is a struct with a ghost field and a literal where the number is

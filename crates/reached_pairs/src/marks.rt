@@ -7,7 +7,8 @@ ghost use Rattle.reached_pairs.specs.ReachedByNumber.{Marked, MarkFrom, Entered}
 pub const PAIRS: usize = 262144;
 
 // The layer of a pair, which is one more than the number of entries that lead to it; the operation and the number of its inputs, which are the last entry; the pair before it.
-// Form 1: where none stands the layer is 0. There is no heap: 262,144 of them stand in one array of the caller, and an `Option` of each would take 12 bytes in place of 8.
+// Form 1: where none stands the layer is 0. There is no heap: 262,144 of them stand in one array of the caller, and an `Option` of each would take 12 bytes in place of 8,
+// with the layer as a `NonZeroU16` too (by `size_of`).
 #[derive(Clone, Copy)]
 pub struct Mark {
     pub layer: u16,

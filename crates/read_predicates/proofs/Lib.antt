@@ -9,7 +9,6 @@ pub use Rattle.reader.proofs.NodeSpansDeclaredLengths as NodeSpansDeclaredLength
 pub use Rattle.reader.proofs.NodeSpansStructure as NodeSpansStructure
 pub use Rattle.reader.proofs.ParserItemNodes as ParserItemNodes
 pub use Rattle.reader.proofs.ParserPartPlaces as ParserPartPlaces
-pub use Rattle.reader.proofs.DossierLetters as ReaderDossierLetters
 pub use Rattle.reader.proofs.ReadGives as ReaderReadGives
 pub use Rattle.reader.proofs.TextLetters as ReaderTextLetters
 pub use Rattle.conjunct_tests.proofs.SearchGroupsGroupPicks as SearchGroupsGroupPicks

@@ -5,13 +5,14 @@ use mathlib.Core.Option.{some, none-ne-some, some-injective}
 use Prim.Native.Nat.{ℕ, zero, suc, ◌+◌, ◌≤◌, ◌<◌}
 use native.Mathlib.Omega.{arith}
 use lib.ListN.{length, get_or, get_elem?, take, drop, length-append, get_or-append}
+use lib.Seq.{get_or-append-add}
 use Rattle.form.specs.Tree.{Pred, Dossier}
 use Rattle.form.specs.Codes.{dossier_codes}
 use Rattle.reader.specs.ParserPromises.{numbering}
 use Rattle.static_rules.specs.Scope.{Scope, Context, contexts}
 use Rattle.static_rules.specs.Read.{reading, read}
 use Rattle.meaning.proofs.ConjunctsHold.{conjuncts, conjuncts-hold}
-use Rattle.meaning.proofs.Places.{entry-below, at_right}
+use Rattle.meaning.proofs.Places.{entry-below}
 use Rattle.value_types.specs.FaultlessContexts.{ContextFine}
 use Rattle.table_nodes.specs.TableWalkPromises.{patch}
 use Rattle.conjunct_tests.specs.TablePlacesResolvedTable.{Slots, pred_table}
@@ -35,7 +36,7 @@ module _ (table rows : List ℕ) where
   row-entry pre rest at from to ss i l e =
       ap (λ (w : List ℕ). get_or w (at + i) 0) e
       ∙ ap (λ (n : ℕ). get_or (pre ++ (conjunct_row from to ss ++ rest)) (n + i) 0) l
-      ∙ at_right pre (conjunct_row from to ss ++ rest) i 0
+      ∙ get_or-append-add pre (conjunct_row from to ss ++ rest) i 0
 
   row-end : (pre rest : List ℕ) (at from to : ℕ) (ss : List ℕ) → at ≡ length pre → rows ≡ pre ++ (conjunct_row from to ss ++ rest) → get_or rows (at + 1) 0 ≡ to
   unfolding conjunct_row

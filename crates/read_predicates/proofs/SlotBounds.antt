@@ -1,22 +1,19 @@
 -- The slots of variables and parameters are below those of bound names, and the contexts of a dossier are few.
 use mathlib.Core.Path.{◌≡◌, refl, subst}
-use mathlib.Core.Bool.{Bool}
-use mathlib.Core.List.{List, [], ◌∷◌, ◌++◌, map}
+use mathlib.Core.List.{List, [], ◌∷◌, ◌++◌}
 use mathlib.Core.Option.{some, none-ne-some, some-injective}
 use Prim.Native.Nat.{ℕ, zero, suc, ◌+◌, ◌*◌, ◌≤◌}
 use native.Mathlib.Omega.{arith}
-use lib.ListN.{length, get_elem?, length-map}
-use Rattle.lexical.specs.Lists.{filter}
+use lib.ListN.{length, get_elem?}
 use Rattle.lexical.specs.Symbols.{Ending, no_ending, prime}
-use Rattle.form.specs.Tree.{Letters, declarations, inward, outward, Parameter, State, Operation, Dossier}
-use Rattle.form.specs.Written.{ending_of}
+use Rattle.form.specs.Tree.{Letters, declarations, inward, outward, State, Operation, Dossier}
 use Rattle.form.specs.Headings.{operations_at, operation_length}
 use Rattle.static_rules.specs.Carriers.{Variable}
-use Rattle.static_rules.specs.Scope.{is_input, is_output, parameters_of, variables, primed, inputs, outputs, concrete_taken, operation_contexts, contexts}
+use Rattle.static_rules.specs.Scope.{variables, primed, inputs, outputs, concrete_taken, operation_contexts, contexts}
 use Rattle.conjunct_tests.specs.TablePlacesResolvedTable.{Slots, slotted}
 use Rattle.conjunct_tests.specs.TablePlacesDossierTable.{slots_of, operation_slots, abstract_slots, concrete_slots, parameter_slots}
 use Rattle.conjunct_tests.specs.SearchGroupsGroupPromises.{FewParameters, FewEach, few_none, few_more, Few}
-use Rattle.reader.proofs.TablesDeclaredPlaces.{variables-few}
+use Rattle.reader.proofs.TablesDeclaredPlaces.{variables-few, parameters_few}
 use Rattle.conjunct_tests.specs.EvaluationSlotValues.{Below}
 
 below-slotted : (s : ℕ) (vs : List Variable) → s + length vs ≤ 38 → Below 38 (slotted s vs)
@@ -51,26 +48,10 @@ module _ (d : Dossier) (f : Few d) where
   concrete-below : Below 38 (concrete_slots d)
   concrete-below = state-below 8 no_ending d.concrete f.concrete (omega arith)
 
-  parameters-few : (kept : Parameter → Bool) (e : Ending) (o : Operation) → length (filter kept o.parameters) ≤ 3
-      → length (variables d.givens e (map (λ (x : Parameter). x.declaration) (filter kept o.parameters))) ≤ 3
-  parameters-few kept e o k =
-      let xs : List Parameter = filter kept o.parameters in
-      let l = variables-few d.givens e (map (λ (x : Parameter). x.declaration) xs) in
-      let m = length-map xs (λ (x : Parameter). x.declaration) in
-      omega arith
-
-  pub inputs_few : (o : Operation) → FewParameters o → length (inputs d o) ≤ 3
-  unfolding parameters_of
-  inputs_few o h = parameters-few (λ (x : Parameter). is_input x.direction) (ending_of inward) o h.inputs
-
-  pub outputs_few : (o : Operation) → FewParameters o → length (outputs d o) ≤ 3
-  unfolding parameters_of
-  outputs_few o h = parameters-few (λ (x : Parameter). is_output x.direction) (ending_of outward) o h.outputs
-
   parameters-below : (o : Operation) → FewParameters o → Below 38 (parameter_slots d o)
   parameters-below o h =
-      let i = inputs_few o h in
-      let u = outputs_few o h in
+      let i = parameters_few d inward o h in
+      let u = parameters_few d outward o h in
       below-append (slotted 16 (inputs d o)) (slotted 19 (outputs d o)) (below-slotted 16 (inputs d o) (omega arith)) (below-slotted 19 (outputs d o) (omega arith))
 
   operations-below : (os : List Operation) → FewEach os → AllBelow (operation_slots d os)

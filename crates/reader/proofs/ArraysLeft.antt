@@ -20,7 +20,8 @@ use Rattle.reader.specs.Occurrences.{Occurs}
 use Rattle.reader.specs.Promises.{Tabled, Leaves}
 use Rattle.reader.proofs.FewGivens.{forms-fewer, forms-few-operations}
 use Rattle.reader.proofs.FewVariables.{forms-few}
-use Rattle.reader.proofs.LeastNameFault.{letters-numbered, dossier-in}
+use Rattle.reader.proofs.TextLetters.{dossier-in}
+use Rattle.reader.proofs.LeastNameFault.{letters-numbered}
 use Rattle.refusals.proofs.FaultLists.{none-least}
 
 -- the parts of the dossier, by the places that the code found
@@ -42,7 +43,7 @@ leaves nodes spans₀ table₀ groups₀ rows₀ firsts₀ spans table groups ro
     let r = placed d text nodes spans k b (ready d (numbering text) nodes spans m st.inside st.nodes_are (forms-few-operations st.forms) _ at.1) at.0 parts.givens parts.abstracts in
     let few = forms-few st.forms in
     let is =
-    whole-table (numbering text) (Occurs text) (letters-numbered text st.scans) d (dossier-in text st.scans st.forms) (none-least (name_faults d) e) few l long z
+    whole-table (numbering text) (Occurs text) (letters-numbered text st.scans) d (dossier-in text st.forms) (none-least (name_faults d) e) few l long z
     (tabled.sized long text starts n d st e) (forms-fewer st.forms).sets nodes spans k b.givens b.abstracts table₀ table r
     (subst (λ (X : Names). TableWritten nodes spans k b.givens b.abstracts X z table₀ table) (tabled.named long text starts n d st e) written) in
     let rest =

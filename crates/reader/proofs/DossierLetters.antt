@@ -1,4 +1,5 @@
 -- Where all names of a dossier's symbols have letters of P and all numbers are at most 1,000, so it is with the dossier's trees.
+-- Form 8: value_types/proofs/SymbolNumbers walks the trees alike for numbers. No crate below both names what each claims, and one law for both would take a case for each of 31 constructors.
 use mathlib.Core.Path.{subst}
 use mathlib.Core.Bool.{Bool, true, false}
 use mathlib.Core.List.{List, [], ◌∷◌}

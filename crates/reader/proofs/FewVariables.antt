@@ -1,5 +1,5 @@
 -- A dossier without faults of form has at most eight variables in a state, and at most three inputs and three outputs in an operation.
-use mathlib.Core.Path.{◌≡◌, refl, ap}
+use mathlib.Core.Path.{◌≡◌, refl}
 use mathlib.Core.Bool.{Bool, true, false}
 use mathlib.Core.List.{List, [], ◌∷◌}
 use mathlib.Core.Option.{some}
@@ -60,39 +60,41 @@ few-in-state s w h = let m = few-variables 0 (declarations s) _ h (omega arith) 
 
 -- ---- parameters ----
 
+-- the parameters of a direction: their mark, which they are, how many there are so far
+abbrev mark_of : Direction → ℕ → Mark
+mark_of inward n = an_input n
+mark_of outward n = an_output n
+
+abbrev is_of : Direction → Direction → Bool
+is_of inward c = is_input c
+is_of outward c = is_output c
+
+abbrev counted : Direction → (i o : ℕ) → ℕ
+counted inward i o = i
+counted outward i o = o
+
 -- one more parameter is one more of its direction, and none of the other
-one_input : (e : Direction) (i : ℕ) (x : Parameter) (xs : List Parameter) → (e ≡ inward → ¬ (3 < suc i)) → (inputs_after e i ≤ 3 → inputs_after e i + length xs ≤ 3) → i ≤ 3
-    → i + length {A = Parameter} (elim (is_input e) [ true ↦ x ∷ xs | false ↦ xs ]) ≤ 3
-one_input inward i x xs h r l = one_more 3 i (length xs) (h refl) r
-one_input outward i x xs h r l = r l
+one-parameter : (e c : Direction) (i o : ℕ) (x : Parameter) (xs : List Parameter) → (parameter_mark c i o ≡ mark_of e (suc (counted e i o)) → ¬ (3 < suc (counted e i o)))
+    → (counted e (inputs_after c i) (outputs_after c o) ≤ 3 → counted e (inputs_after c i) (outputs_after c o) + length xs ≤ 3) → counted e i o ≤ 3
+    → counted e i o + length {A = Parameter} (elim (is_of e c) [ true ↦ x ∷ xs | false ↦ xs ]) ≤ 3
+one-parameter inward inward i o x xs h r l = one_more 3 i (length xs) (h refl) r
+one-parameter inward outward i o x xs h r l = r l
+one-parameter outward inward i o x xs h r l = r l
+one-parameter outward outward i o x xs h r l = one_more 3 o (length xs) (h refl) r
 
-one-output : (e : Direction) (o : ℕ) (x : Parameter) (xs : List Parameter) → (e ≡ outward → ¬ (3 < suc o)) → (outputs_after e o ≤ 3 → outputs_after e o + length xs ≤ 3) → o ≤ 3
-    → o + length {A = Parameter} (elim (is_output e) [ true ↦ x ∷ xs | false ↦ xs ]) ≤ 3
-one-output inward o x xs h r l = r l
-one-output outward o x xs h r l = one_more 3 o (length xs) (h refl) r
-
-few-inputs : (i o : ℕ) (xs : List Parameter) (w : List Written) → None 3 an_input (write_parameters i o xs w) → i ≤ 3
-    → i + length (filter (λ (x : Parameter). is_input x.direction) xs) ≤ 3
+few-of : (e : Direction) (i o : ℕ) (xs : List Parameter) (w : List Written) → None 3 (mark_of e) (write_parameters i o xs w) → counted e i o ≤ 3
+    → counted e i o + length (filter (λ (x : Parameter). is_of e x.direction) xs) ≤ 3
 unfolding write_parameters filter
-few-inputs i o [] w h l = omega arith
-few-inputs i o (x ∷ xs) w h l =
-    one_input x.direction i x _ (λ e q. h (suc i) q (here (ap (λ (a : Direction). parameter_mark a i o) e)))
-    (few-inputs _ _ xs w (λ k q p. h k q (there (there (past-type (an_input k) x.declaration.type _ (there p))))))
-    l
-
-few_outputs : (i o : ℕ) (xs : List Parameter) (w : List Written) → None 3 an_output (write_parameters i o xs w) → o ≤ 3
-    → o + length (filter (λ (x : Parameter). is_output x.direction) xs) ≤ 3
-unfolding write_parameters filter
-few_outputs i o [] w h l = omega arith
-few_outputs i o (x ∷ xs) w h l =
-    one-output x.direction o x _ (λ e q. h (suc o) q (here (ap (λ (a : Direction). parameter_mark a i o) e)))
-    (few_outputs _ _ xs w (λ k q p. h k q (there (there (past-type (an_output k) x.declaration.type _ (there p))))))
+few-of e i o [] w h l = omega arith
+few-of e i o (x ∷ xs) w h l =
+    one-parameter e x.direction i o x _ (λ p q. h (suc (counted e i o)) q (here p))
+    (few-of e _ _ xs w (λ k q p. h k q (there (there (past-type (mark_of e k) x.declaration.type _ (there p))))))
     l
 
 few-parameters : (o : Operation) (w : List Written) → None 3 an_input (write_parameters 0 0 o.parameters w) → None 3 an_output (write_parameters 0 0 o.parameters w) → FewParameters o
 few-parameters o w h g =
-    let m = few-inputs 0 0 o.parameters w h (omega arith) in
-    let n = few_outputs 0 0 o.parameters w g (omega arith) in
+    let m = few-of inward 0 0 o.parameters w h (omega arith) in
+    let n = few-of outward 0 0 o.parameters w g (omega arith) in
     record { inputs = omega arith; outputs = omega arith }
 
 few-each : (n : ℕ) (os : List Operation) (w : List Written) → None 3 an_input (write_operations n os w) → None 3 an_output (write_operations n os w) → FewEach os

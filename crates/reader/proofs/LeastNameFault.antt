@@ -1,5 +1,5 @@
 -- The first fault that the pass for names finds in a text without faults of form is the least one of the definitions.
-use mathlib.Core.Path.{◌≡◌, refl, ◌∙◌, sym, subst}
+use mathlib.Core.Path.{◌≡◌, refl, ◌∙◌}
 use mathlib.Core.Bool.{Bool, true, false, cond}
 use mathlib.Core.List.{List, map}
 use Prim.Native.Nat.{ℕ, ◌≤◌, ◌<◌}
@@ -19,11 +19,10 @@ use Rattle.static_rules.specs.Names.{name_faults}
 use Rattle.type_rules.specs.TypesByNumber.{Names, Sizes, entry, least_key}
 use Rattle.declared_names.specs.NamesByNumber.{givens_key, dossier_key}
 use Rattle.names.proofs.ReachTables.{Numbered}
-use Rattle.names.proofs.PassAgrees.{DossierIn, passed}
-use Rattle.reader.specs.Occurrences.{Occurs, AllFit}
-use Rattle.reader.proofs.TextLetters.{occurs-numbered, text-fits}
+use Rattle.names.proofs.PassAgrees.{passed}
+use Rattle.reader.specs.Occurrences.{Occurs}
+use Rattle.reader.proofs.TextLetters.{occurs-numbered, dossier-in}
 use Rattle.reader.proofs.FewGivens.{forms-fewer}
-use Rattle.reader.proofs.DossierLetters.{symbols-in}
 use Rattle.lexical.proofs.Zeros.{zero-at}
 
 -- the sizes of the given sets stand in z
@@ -48,13 +47,9 @@ module _ (text : List ℕ) {codes₀ starts₀ values₀ coded starts valued : L
   pub letters-numbered : Numbered (numbering text) (Occurs text)
   letters-numbered = occurs-numbered text (known scans).symbols_are (known scans).tells
 
-  -- every name of the dossier occurs in the text
-  pub dossier-in : {d : Dossier} → Forms (text_symbols text) d → DossierIn (Occurs text) d
-  dossier-in {d} f = symbols-in (Occurs text) d (subst (AllFit (Occurs text)) (sym f.whole.symbols) (text-fits text (known scans).symbols_are))
-
   pub names-least : {d : Dossier} → Forms (text_symbols text) d → (T : Names) → 16384 ≤ length T → ((x : ℕ) → entry T x ≡ 0) → (z : Sizes) → Sizing d z
       → dossier_key d T (numbering text) z ≡ least_key (name_faults d)
-  names-least {d} f T long empty z sizes = passed (numbering text) (Occurs text) letters-numbered d (dossier-in f) T long empty z sizes (forms-fewer f).sets
+  names-least {d} f T long empty z sizes = passed (numbering text) (Occurs text) letters-numbered d (dossier-in text f) T long empty z sizes (forms-fewer f).sets
 
   -- from a table of names that are free; the sizes are those of the given sets once these have no fault
   pub names-from-free : {d : Dossier} → Forms (text_symbols text) d → (m : ℕ) → 16384 ≤ m → (z : Sizes)

@@ -10,14 +10,14 @@ use Rattle.form.specs.Tree.{Dossier}
 use Rattle.form.specs.Headings.{givens_at}
 use Rattle.form.specs.Codes.{given_codes}
 use Rattle.parser.specs.Promises.{numbering}
-use Rattle.parser.specs.Sections.{Sectioned}
+use Rattle.parser.specs.Sections.{PartOf, Sectioned}
 use Rattle.parser.specs.declared.sections.Bounds.{Bounds}
 use Rattle.static_rules.specs.Carriers.{size_of}
 use Rattle.static_rules.specs.Names.{name_faults}
 use Rattle.static_rules.specs.Limits.{binding_faults, size_faults}
 use Rattle.type_rules.specs.TypesByNumber.{Names, Sizes, key_of}
 use Rattle.declared_names.specs.NamesByNumber.{givens_key, givens_named}
-use Rattle.declared_names.specs.PassPromises.{PartOf, GivenSeen}
+use Rattle.declared_names.specs.PassPromises.{GivenSeen}
 use Rattle.node_spans.specs.Spans.{Spanned, Structured}
 use Rattle.node_spans.proofs.Structure.{structured}
 use Rattle.binding_counts.specs.BindingsByNumber.{BindingsSeen}
@@ -28,7 +28,8 @@ use Rattle.limits.proofs.SizesAgreeDossier.{dossier-near, measures-least}
 use Rattle.reader.specs.Occurrences.{Occurs}
 use Rattle.reader.specs.Promises.{Stands, Tabled, Finds}
 use Rattle.reader.proofs.FewGivens.{forms-fewer, forms-few-operations}
-use Rattle.reader.proofs.LeastNameFault.{letters-numbered, dossier-in, names-from-free}
+use Rattle.reader.proofs.TextLetters.{dossier-in}
+use Rattle.reader.proofs.LeastNameFault.{letters-numbered, names-from-free}
 use Rattle.reader.proofs.PartSections.{sectioned-placed}
 use Rattle.reader.proofs.PassAnswers.{givens-none}
 use Rattle.refusals.proofs.FaultLists.{none-least}
@@ -80,13 +81,13 @@ pub bindings-found : (nodes spans₀ spans : List ℕ) (m k l : ℕ) (T : Names)
 bindings-found nodes spans₀ spans m k l T z r table long spanned seen text starts n d st e =
     let none-at = none-least (name_faults d) e in
     seen d (numbering text) (parted st spans₀ spans k spanned) (declared-fit d none-at)
-    (givens-shown (numbering text) (Occurs text) (letters-numbered text st.scans) d (dossier-in text st.scans st.forms) none-at (forms-fewer st.forms).sets l long T
+    (givens-shown (numbering text) (Occurs text) (letters-numbered text st.scans) d (dossier-in text st.forms) none-at (forms-fewer st.forms).sets l long T
     (table.named long text starts n d st e) z (table.sized long text starts n d st e))
 
 -- 13
 pub sizes-found : (nodes spans₀ spans : List ℕ) (m k l r : ℕ) → Spanned nodes m spans₀ spans k → 16384 ≤ l → MeasuresSeen nodes spans k l r → Finds size_faults nodes m r
 sizes-found nodes spans₀ spans m k l r spanned long seen text starts n d st e =
     let none-at = none-least (name_faults d) e in
-    let in-text = dossier-in text st.scans st.forms in
+    let in-text = dossier-in text st.forms in
     seen d (numbering text) (parted st spans₀ spans k spanned) (declared-fit d none-at) (dossier-near (Occurs text) d in-text)
     ∙ measures-least (numbering text) (Occurs text) (letters-numbered text st.scans) d in-text l long

@@ -13,10 +13,9 @@ use binding_counts::bindings::bindings;
 use form::node::NUMBERS;
 use lexical::bounds::SYMBOLS;
 use limits::measures::measures;
-use names::passes::part;
 use names::{NAMES, SIZES, given_sets, least_fault};
 use node_spans::{Parts, span};
-use parser::sections::Nodes;
+use parser::sections::{Nodes, between};
 use parser::{Structure, located, parse};
 use refusals::Fault;
 use search_groups::conjuncts::{FIRSTS, conjuncts};
@@ -76,7 +75,7 @@ fn given_table(made: &Nodes<'_>, names: &mut [Kind], sizes: &mut [u16; SIZES])
     ensures { Tabled made.now.numbers.now made.now.end (length names.old) names.new sizes.new }
 {
     let at = made.sections();
-    let _ = given_sets(part(made.numbers, at.givens, at.abstracts), names, sizes);
+    let _ = given_sets(between(made.numbers, at.givens, at.abstracts), names, sizes);
 }
 
 // Number 12, where names have no fault.

@@ -8,8 +8,6 @@ pub mod ReadReadings
 -- what crates above name of crates below
 pub use Rattle.read_predicates.proofs.ConjunctTestsLastVariables as ConjunctTestsLastVariables
 pub use Rattle.read_predicates.proofs.CountedRows as ReadPredicatesCountedRows
-pub use Rattle.read_predicates.proofs.SlotBounds as ReadPredicatesSlotBounds
-pub use Rattle.read_predicates.proofs.ReaderDossierLetters as ReaderDossierLetters
 pub use Rattle.read_predicates.proofs.ReaderReadGives as ReaderReadGives
 pub use Rattle.read_predicates.proofs.ReaderTextLetters as ReaderTextLetters
 pub use Rattle.read_predicates.proofs.TablesDeclaredPlaces as TablesDeclaredPlaces

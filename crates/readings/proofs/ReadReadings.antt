@@ -34,11 +34,10 @@ use Rattle.table_nodes.specs.TableWalkPromises.{patch}
 use Rattle.read_predicates.specs.TablePlacesDossierTable.{row, state_row, parameter_row, operation_rows, groups_of, table_of}
 use Rattle.read_predicates.specs.SearchGroupsGroupPromises.{FewParameters, FewEach, few_none, few_more}
 use Rattle.read_predicates.proofs.SearchGroupsGroupPicks.{state-count, parameter-count, row-length}
-use Rattle.read_predicates.proofs.TablesDeclaredPlaces.{variables-few}
+use Rattle.read_predicates.proofs.TablesDeclaredPlaces.{variables-few, parameters_few}
 use Rattle.read_predicates.specs.ReaderPromises.{Written}
 use Rattle.read_predicates.specs.ReaderGives.{Gives}
 use Rattle.read_predicates.proofs.ReaderReadGives.{read-gives}
-use Rattle.read_predicates.proofs.SlotBounds.{inputs_few, outputs_few}
 use Rattle.read_predicates.proofs.ReadTests.{read-tests}
 use Rattle.readings.specs.Readings.{GroupAt, ReadingOf}
 use Rattle.readings.proofs.TablePatches.{TypesAt}
@@ -275,7 +274,7 @@ read-reading text nodes spans₀ table₀ groups₀ rows₀ firsts₀ spans tabl
         (fine.parameters o (entry-member o d.operations j t)) (within-at d.operations numbers.operations j o t) (low j o t))
         (18 + 8 * j) 3 r.behind_inputs r.inputs_row 3 64
         (subst (λ (vs : List Variable). length vs ≤ 3) (parameters-are d.givens inward o.parameters)
-        (inputs_few d given.variables o (few-at given.variables.parameters j o t)))
+        (parameters_few d inward o (few-at given.variables.parameters j o t)))
         (subst (λ (vs : List Variable). binding_count vs ≤ 64) (parameters-are d.givens inward o.parameters)
         (operation-bindings d (operations_at d) d.operations counts.2 j o t).0))
 
@@ -288,6 +287,6 @@ read-reading text nodes spans₀ table₀ groups₀ rows₀ firsts₀ spans tabl
         (fine.parameters o (entry-member o d.operations j t)) (within-at d.operations numbers.operations j o t) (low j o t))
         (18 + 8 * j + 4) 3 r.behind_outputs r.outputs_row 3 64
         (subst (λ (vs : List Variable). length vs ≤ 3) (parameters-are d.givens outward o.parameters)
-        (outputs_few d given.variables o (few-at given.variables.parameters j o t)))
+        (parameters_few d outward o (few-at given.variables.parameters j o t)))
         (subst (λ (vs : List Variable). binding_count vs ≤ 64) (parameters-are d.givens outward o.parameters)
         (operation-bindings d (operations_at d) d.operations counts.2 j o t).1))

@@ -5,11 +5,10 @@ use mathlib.Core.List.{List, [], ◌∷◌, ◌++◌}
 use Prim.Native.Nat.{ℕ, ◌+◌, ◌-◌, ◌*◌, ◌<◌, ◌≤◌}
 use native.Mathlib.Omega.{arith}
 use lib.ListN.{length, get_or, take, drop, get_or-append}
-use lib.Seq.{length-take-le}
+use lib.Seq.{length-take-le, get_or-take, get_or-drop, get_or-append-add}
 use Rattle.form.specs.Tree.{Given, TypeForm, given_type, power_type, range_type, arrow_type, Declaration}
 use Rattle.form.specs.Codes.{Numbering, condition_codes, pred_codes}
 use Rattle.static_rules.specs.Scope.{Context}
-use Rattle.meaning.proofs.Places.{at-taken, at-dropped, at_right}
 use Rattle.table_nodes.specs.TableWalkPromises.{patch}
 use Rattle.read_predicates.specs.TablePlacesResolvedTable.{Slots, pred_table}
 use Rattle.read_predicates.specs.TablePlacesDossierTable.{with_predicates, type_table, with_carriers}
@@ -26,20 +25,20 @@ module _ (b : ℕ) (t out : List ℕ) (h : b ≤ length out) where
   patch-here : (k : ℕ) → k < length t → get_or (patch b t out) (b + k) 0 ≡ get_or t k 0
   unfolding patch
   patch-here k l =
-      ap (λ (n : ℕ). get_or (patch b t out) (n + k) 0) (sym (length-take-le b out h)) ∙ at_right (take b out) (t ++ drop (b + length t) out) k 0
+      ap (λ (n : ℕ). get_or (patch b t out) (n + k) 0) (sym (length-take-le b out h)) ∙ get_or-append-add (take b out) (t ++ drop (b + length t) out) k 0
       ∙ get_or-append t (drop (b + length t) out) 0 k l
 
   patch-below : (i : ℕ) → i < b → get_or (patch b t out) i 0 ≡ get_or out i 0
   unfolding patch
   patch-below i l =
       let r = length-take-le b out h in
-      get_or-append (take b out) (t ++ drop (b + length t) out) 0 i (omega arith) ∙ at-taken b out i 0 l
+      get_or-append (take b out) (t ++ drop (b + length t) out) 0 i (omega arith) ∙ get_or-take b out i 0 l
 
   patch-above : (j : ℕ) → get_or (patch b t out) (b + (length t + j)) 0 ≡ get_or out (b + length t + j) 0
   unfolding patch
   patch-above j =
       ap (λ (n : ℕ). get_or (patch b t out) (n + (length t + j)) 0) (sym (length-take-le b out h))
-      ∙ at_right (take b out) (t ++ drop (b + length t) out) (length t + j) 0 ∙ at_right t (drop (b + length t) out) j 0 ∙ at-dropped (b + length t) out j 0
+      ∙ get_or-append-add (take b out) (t ++ drop (b + length t) out) (length t + j) 0 ∙ get_or-append-add t (drop (b + length t) out) j 0 ∙ get_or-drop (b + length t) out j 0
 
   patch-off : (i : ℕ) → Off i b (length t) → get_or (patch b t out) i 0 ≡ get_or out i 0
   patch-off i (inl l) = patch-below i l

@@ -44,15 +44,11 @@ fn entry(y: &Symbols<'_>, n: usize) -> Option<usize> {
 // Number 7: the entry of the contents that the heading at symbol s should be, by the number of bodies before it.
 pub fn wanted(y: &Symbols<'_>, s: usize) -> Option<Span> {
     let e = entry(y, y.count_before(codes::END, s).saturating_sub(1))?;
-    let last = if has_name(y.kind(e)) {
-        e.saturating_add(1)
-    } else {
-        e
-    };
-    Some(Span {
-        from: y.start(e),
-        to: y.end(last),
-    })
+    let many = if has_name(y.kind(e)) { 2 } else { 1 };
+    Some(y.bytes(Span {
+        from: e,
+        to: e.saturating_add(many),
+    }))
 }
 
 // Where the names begin that the name at symbol s must differ from: inputs and outputs differ within their operation, the others in the bodies.

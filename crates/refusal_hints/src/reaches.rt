@@ -9,7 +9,7 @@ use phrases::texts::ENDINGS;
 use phrases::words;
 use refusals::{Fault, Refusal};
 use symbol_spans::{Symbols, is_name};
-use text_places::{Span, part, run_end, symbol_end};
+use text_places::{Span, part, run_end, symbol_at};
 use tried_texts::tried;
 
 // Are the letters of a span, with an ending, in reach in the place of the symbol at p? Refusals of passes before say nothing of it.
@@ -19,11 +19,7 @@ fn reaches(text: &[u8], p: usize, letters: Span, ending: Ending) -> bool {
     if let Some(b) = byte_of(ending) {
         sample.put(b);
     }
-    let symbol = Span {
-        from: p,
-        to: symbol_end(text, p),
-    };
-    let answer = tried(text, symbol, sample.as_slice());
+    let answer = tried(text, symbol_at(text, p), sample.as_slice());
     let unknown = Fault {
         refusal: Refusal::NameUnknown,
         place: p,

@@ -12,7 +12,7 @@ use tried_texts::{TRIAL, tried};
 pub type Sample = BoundedText<TRIAL>;
 
 // Symbols that stand for a number and for names, by their codes from 1 on.
-const STAND_INS: [u8; 13] = *b"0 x x' x? x! ";
+const STAND_INS: &[u8] = b"0 x x' x? x! ";
 
 // Form 1: counts and bounds of codes, no kinds.
 const CLASSES: usize = 5;
@@ -33,9 +33,9 @@ fn stands(text: &[u8], p: usize, code: usize) -> bool {
     let mut sample = Sample::new();
     sample.put(b' ');
     if code < CLASSES {
-        sample.put_all(word(&STAND_INS, code));
+        sample.put_all(word(STAND_INS, code));
     } else {
-        sample.put_all(word(&SPELLINGS, code));
+        sample.put_all(word(SPELLINGS, code));
     }
     let rest = Span {
         from: p,
@@ -50,6 +50,7 @@ fn stands(text: &[u8], p: usize, code: usize) -> bool {
 }
 
 // The bits of all that could stand there.
+// Form 2: `points::masks::mask_of` makes such a mask by a test. For these six lines the crate would stand on `points` and so on the evaluator, of which nothing here asks.
 pub fn could_stand(text: &[u8], p: usize) -> usize {
     let mut bits: usize = 0;
     for code in 0..CODES {

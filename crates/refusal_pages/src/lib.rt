@@ -1,7 +1,7 @@
 // The page of a refused text: where it was refused, by which rule, and a hint by the number of the refusal.
 #![tactic(auto)]
 
-use lexical::bounds::{PAIRS, PARAMETER_BINDINGS, RANGE_NUMBERS, STATE_BINDINGS, SYMBOLS};
+use lexical::bounds::{PAIRS, PARAMETER_BINDINGS, RANGE_NUMBERS, STATE_BINDINGS};
 use lexical::codes;
 use pages::Page;
 use phrases::words;
@@ -11,22 +11,19 @@ use refusal_hints::reaches::say_names;
 use refusal_hints::samples::could_stand;
 use refusal_sides::{Told, say_sides};
 use refusals::{Fault, Refusal};
-use symbol_spans::Symbols;
+use symbol_spans::{SymbolArrays, Symbols};
 use symbols::scan;
 use text_places::{column_of, line_of, symbol_end};
 
 // Where it was refused, in words and underlined.
 fn say_place(text: &[u8], p: usize, page: &mut Page) {
-    let line = line_of(text, p);
-    let column = column_of(text, p);
-    if text.len() <= p {
-        page.say_of(words::THE_PLACE_AT_THE_END, 0, line, column);
-        page.say_of(words::THE_LINE_UNDERLINED, 0, p, 1);
+    let (place, underlined) = if text.len() <= p {
+        (words::THE_PLACE_AT_THE_END, 1)
     } else {
-        let n = symbol_end(text, p).saturating_sub(p);
-        page.say_of(words::THE_PLACE, 0, line, column);
-        page.say_of(words::THE_LINE_UNDERLINED, 0, p, n);
-    }
+        (words::THE_PLACE, symbol_end(text, p).saturating_sub(p))
+    };
+    page.say_of(place, 0, line_of(text, p), column_of(text, p));
+    page.say_of(words::THE_LINE_UNDERLINED, 0, p, underlined);
 }
 
 // Number 7, at symbol s.
@@ -108,17 +105,9 @@ fn say_hint(y: &Symbols<'_>, f: Fault, page: &mut Page) {
 
 // The same, by the symbols of the text.
 fn say_hint_for(text: &[u8], f: Fault, page: &mut Page) {
-    let mut kinds = [0u8; SYMBOLS];
-    let mut starts = [0u16; SYMBOLS];
-    let mut values = [0u16; SYMBOLS];
-    let _ = scan(text, &mut kinds, &mut starts, &mut values);
-    let y = Symbols {
-        text,
-        kinds: &kinds,
-        starts: &starts,
-        values: &values,
-    };
-    say_hint(&y, f, page);
+    let mut a = SymbolArrays::new();
+    let _ = scan(text, &mut a.kinds, &mut a.starts, &mut a.values);
+    say_hint(&a.symbols(text), f, page);
 }
 
 // All that is said of a refusal.

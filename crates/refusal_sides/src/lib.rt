@@ -21,14 +21,6 @@ pub enum Told {
     Sizes,
 }
 
-// The bytes of some symbols.
-fn bytes_of(y: &Symbols<'_>, s: Span) -> Span {
-    Span {
-        from: y.start(s.from),
-        to: y.end(s.to.saturating_sub(1)),
-    }
-}
-
 // Does the body of a given set begin at symbol s? An entry of the contents has no element.
 fn is_set(y: &Symbols<'_>, s: usize) -> bool {
     y.kind(s) == codes::GIVEN && is_name(y.kind(s.saturating_add(2)))
@@ -89,8 +81,8 @@ fn say_type(text: &[u8], t: Option<Term>, page: &mut Page) {
 fn say_side(y: &Symbols<'_>, side: Span, whole: Span, title: usize, told: Told, page: &mut Page) {
     let x = Trial {
         text: y.text,
-        own: bytes_of(y, side),
-        atom: bytes_of(y, whole),
+        own: y.bytes(side),
+        atom: y.bytes(whole),
     };
     page.say_of(title, 0, x.own.from, x.own.to);
     match told {

@@ -2,7 +2,7 @@
 use lexical::bounds::LARGEST_SIZE;
 use refusal_hints::samples::{Sample, is_past};
 use refusals::{Fault, Refusal};
-use text_places::{Span, part, symbol_end};
+use text_places::{Span, part, symbol_at};
 use tried_texts::tried;
 
 // The digits of a size.
@@ -35,13 +35,7 @@ pub enum Term {
 }
 
 fn put_name(text: &[u8], from: usize, out: &mut Sample) {
-    out.put_all(part(
-        text,
-        Span {
-            from,
-            to: symbol_end(text, from),
-        },
-    ));
+    out.put_all(part(text, symbol_at(text, from)));
 }
 
 // The term behind a blank.

@@ -6,3 +6,4 @@ pub mod VerdictLaws
 pub mod ReportAnswers
 -- what crates above name of crates below
 pub use Rattle.parts.proofs.PartTestsPartSizes as PartTestsPartSizes
+pub use Rattle.text_readings.proofs.ReadTexts as ReadTexts

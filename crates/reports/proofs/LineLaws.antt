@@ -1,5 +1,5 @@
 -- The lines of a report piece by piece: the first line of a refuted check by its part.
-use mathlib.Core.Path.{◌≡◌, sym, ap, subst, ◌∙◌}
+use mathlib.Core.Path.{◌≡◌, sym, ap, ◌∙◌}
 use mathlib.Core.List.{List, [], ◌∷◌, map}
 use mathlib.Core.Option.{some, none-ne-some, some-injective}
 use Prim.Native.Nat.{ℕ, zero, suc, ◌+◌, ◌<◌, ◌≤◌}
@@ -10,11 +10,9 @@ use Rattle.form.specs.Tree.{Operation, Dossier}
 use Rattle.meaning.proofs.Places.{below-entry}
 use Rattle.obligations.specs.Order.{Obligation, initialisation, applicability, correctness}
 use Rattle.obligations.specs.Report.{titles, refuted_line}
-use Rattle.held_checks.specs.declared.Obligation as code
-use Rattle.held_checks.specs.Answers.{obligation_is}
 use Rattle.pieces.specs.PiecePromises.{Adds, letters_at}
 use Rattle.pieces.specs.declared.Writer.{Writer}
-use Rattle.pieces.proofs.WrittenPieces.{both-added, letters-length}
+use Rattle.pieces.proofs.WrittenPieces.{piece_is, both-added, letters-length}
 use Rattle.labels.specs.Labels.{LabelsOf}
 use Rattle.witnesses.proofs.LinesLabelledLines.{spelt-letters}
 use Rattle.reports.specs.ReportPromises.{ObligationIn, AddsLine}
@@ -31,10 +29,6 @@ unfolding titles
 title-of {text} {labels} {d} l j h =
     let t : (op : Operation) × (get_elem? d.operations j ≡ some op) = below-entry d.operations j h in
     spelt-letters text (get_or labels (64 + j) 0) t.0.title (l.titles_at j t.0 t.1) ∙ sym (title-at d.operations j t.0 t.1)
-
-titled : {text labels : List ℕ} {d : Dossier} {u v : Writer} (k : ℕ) → LabelsOf text labels d → k < length d.operations → Adds (letters_at text (get_or labels (64 + k) 0)) u v
-    → Adds (get_or (titles d) k []) u v
-titled {u = u} {v} k l i a = subst (λ (x : List ℕ). Adds x u v) (title-of l k i) a
 
 module _ {text labels : List ℕ} {old new : Writer} where
   pub opening-line : Adds (bytes "refuted initialisation\n") old new → AddsLine text labels initialisation old new
@@ -60,12 +54,8 @@ module _ {text labels : List ℕ} {old new : Writer} where
   module _ {k : ℕ} {a b : Writer} (v : Adds (letters_at text (get_or labels (64 + k) 0)) a b) (u : Adds (10 ∷ []) b new) where
     pub applying-line : Adds (bytes "refuted applicability ") old a → AddsLine text labels (applicability k) old new
     unfolding bytes refuted_line
-    applying-line w = titled-line k w v u (omega arith) (λ d l i. both-added (both-added w (titled k l i v)) u)
+    applying-line w = titled-line k w v u (omega arith) (λ d l i. both-added (both-added w (piece_is (title-of l k i) v)) u)
 
     pub correcting-line : Adds (bytes "refuted correctness ") old a → AddsLine text labels (correctness k) old new
     unfolding bytes refuted_line
-    correcting-line w = titled-line k w v u (omega arith) (λ d l i. both-added (both-added w (titled k l i v)) u)
-
--- where an obligation is a case of the enum, its line is that of the case
-pub line-for : {text labels : List ℕ} {old new : Writer} {o p : code.Obligation} → o ≡ p → AddsLine text labels (obligation_is p) old new → AddsLine text labels (obligation_is o) old new
-line-for {text} {labels} {old} {new} e w = subst (λ (x : code.Obligation). AddsLine text labels (obligation_is x) old new) (sym e) w
+    correcting-line w = titled-line k w v u (omega arith) (λ d l i. both-added (both-added w (piece_is (title-of l k i) v)) u)

@@ -1,13 +1,11 @@
 -- Room for the lines of a report, and the lines piece by piece: the line with the count, the line of a refusal.
-use mathlib.Core.Path.{◌≡◌, subst}
 use mathlib.Core.List.{List, ◌++◌}
 use Prim.Native.Nat.{ℕ, ◌+◌, ◌^◌, ◌<◌, ◌≤◌}
 use native.Mathlib.Omega.{arith}
 use lib.ListN.{length, length-append}
 use Rattle.lexical.specs.Lists.{bytes}
 use Rattle.obligations.specs.Report.{decimal}
-use Rattle.pieces.specs.PiecePromises.{Writes, Adds, letters_at}
-use Rattle.pieces.specs.declared.Writer.{Writer}
+use Rattle.pieces.specs.PiecePromises.{Writes, letters_at}
 use Rattle.pieces.proofs.WrittenPieces.{letters-length}
 use Rattle.pieces.proofs.Digits.{decimal-length}
 use Rattle.reports.specs.ReportPromises.{refusal_piece}
@@ -45,7 +43,3 @@ refusal-short n p h g =
     let c = length-append (bytes "refused " ++ decimal n) (bytes " at ") in
     let d = length-append (bytes "refused ") (decimal n) in
     omega (arith, decimal-length n h, decimal-length p g)
-
--- the number of a refusal that is written is that of the line
-pub refusal-for : (p : ℕ) {n k : ℕ} {u v : Writer} → n ≡ k → Adds (refusal_piece n p) u v → Adds (refusal_piece k p) u v
-refusal-for p {u = u} {v} e w = subst (λ (n : ℕ). Adds (refusal_piece n p) u v) e w

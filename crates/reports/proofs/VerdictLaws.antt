@@ -1,6 +1,6 @@
 -- The lines of a verdict from what the search came to: those of a refuted check at the place where it failed, those of an accepted one.
 use mathlib.Core.Path.{◌≡◌, refl, sym, ap, subst, ◌∙◌}
-use Rattle.std.specs.Prelude.{Option, None, Some}
+use Rattle.std.specs.Prelude.{None, Some}
 use mathlib.Core.Bool.{true, false}
 use mathlib.Core.List.{List, ◌++◌}
 use Prim.Native.Nat.{ℕ, suc, min, ◌+◌, ◌^◌, ◌<◌, ◌≤◌}
@@ -22,63 +22,51 @@ use Rattle.pieces.proofs.Digits.{decimal-length}
 use Rattle.pieces.proofs.WrittenPieces.{both-written}
 use Rattle.labels.specs.Labels.{LabelsOf}
 use Rattle.part_places.specs.Places.{parts, AllAsked, TotalIs, PlaceAsked, PlaceFound}
-use Rattle.part_places.proofs.PlaceObligations.{obligation-opening, obligation-applying, obligation-correcting}
+use Rattle.part_places.proofs.PlaceObligations.{part-obligation}
 use Rattle.part_places.proofs.ReadingGroups.{reading-groups}
 use Rattle.held_checks.specs.declared.Obligation as code
 use Rattle.held_checks.specs.Answers.{obligation_is}
 use Rattle.held_checks.specs.StepPromises.{PartTold}
 use Rattle.held_checks.proofs.StepLaws.{told-case}
-use Rattle.witnesses.specs.WitnessPromises.{WitnessAsked, WitnessWritten, AddsWitness}
+use Rattle.witnesses.specs.WitnessPromises.{WitnessWritten, AddsWitness}
 use Rattle.reports.specs.ReportPromises.{ObligationIn, listed, LineWritten, AddsLine, VerdictAsked, VerdictWritten, AddsVerdict}
 use Rattle.reports.proofs.VerdictLines.{came, whole-look, failed-inside, refuted-lines, accepted-lines}
 
-module _ {text labels table rows firsts groups : List ℕ} {operations : ℕ} (k : VerdictAsked text labels table rows firsts groups operations) where
+-- a dossier whose reading the arrays are
+module _ {table rows firsts groups : List ℕ} {operations : ℕ} (d : Dossier) (r : ReadingOf table rows firsts groups d) (m : operations ≡ length d.operations) where
   -- what the callees ask
   pub all_asked : AllAsked table groups operations
-  all_asked = record { dossier = k.dossier; groups_are = reading-groups k.arrays; many = k.many }
+  all_asked = record { dossier = d; groups_are = reading-groups r; many = m }
 
   module _ {all : ℕ} (t : TotalIs table groups operations all) where
-    all_is : all ≡ total (subject_of k.dossier)
-    all_is = t.is k.dossier (reading-groups k.arrays) k.many
+    all_is : all ≡ total (subject_of d)
+    all_is = t.is d (reading-groups r) m
 
     pub all_small : all < 2 ^ 53
-    all_small = let e = all_is in let s = reading_small k.arrays in omega arith
+    all_small = let e = all_is in let s = reading_small r in omega arith
 
     pub search-asked : SearchAsked table rows firsts groups operations 0
-    search-asked = record { dossier = k.dossier; reading = k.arrays; many = k.many; inside = omega arith }
+    search-asked = record { dossier = d; reading = r; many = m; inside = omega arith }
 
     module _ {at : ℕ} (s : SearchAnswers table rows firsts groups operations 0 all (Some at)) where
-      looked : (d : Dossier) → ReadingOf table rows firsts groups d → operations ≡ length d.operations → look (subject_of d) (checks (subject_of d)) ≡ came at true
-      looked d r m = whole-look (Some at) d s r m (t.is d (reading-groups r) m)
+      looked : look (subject_of d) (checks (subject_of d)) ≡ came at true
+      looked = whole-look (Some at) d s r m all_is
 
-      at-inside : at < total (subject_of k.dossier)
-      at-inside = failed-inside k.dossier at (looked k.dossier k.arrays k.many)
+      at-inside : at < total (subject_of d)
+      at-inside = failed-inside d at looked
 
       pub place_small : at < 2 ^ 53
-      place_small = let i = at-inside in let z = reading_small k.arrays in omega arith
+      place_small = let i = at-inside in let z = reading_small r in omega arith
 
       pub place-asked : PlaceAsked table groups operations at
       unfolding all_asked
       place-asked = record { all = all_asked; inside = at-inside }
 
-      module _ {part q : ℕ} (p : PlaceFound table groups operations at part q) where
-        pub witness-asked : WitnessAsked table groups part q
-        witness-asked = record {
-          dossier = k.dossier;
-          groups_are = reading-groups k.arrays;
-          inside = p.within k.dossier (reading-groups k.arrays) k.many at-inside;
-          low = p.low k.dossier (reading-groups k.arrays) k.many at-inside;
-        }
-
-        pub told-listed : {o : code.Obligation} → PartTold part o → listed (obligation_is o) ≡ true
-        told-listed t =
-            let h = p.within k.dossier (reading-groups k.arrays) k.many at-inside in
-            let n = k.arrays.operations in
-            told-case (λ (x : Obligation). listed x ≡ true) part t (λ e. refl) (λ j e. lt-ltb j 16 (omega arith)) (λ j e. lt-ltb j 16 (omega arith))
-
-pub found-at : {table rows firsts groups : List ℕ} {operations all : ℕ} {f g : Option ℕ} → f ≡ g → SearchAnswers table rows firsts groups operations 0 all f
-    → SearchAnswers table rows firsts groups operations 0 all g
-found-at {table} {rows} {firsts} {groups} {operations} {all} e s = subst (λ (x : Option ℕ). SearchAnswers table rows firsts groups operations 0 all x) e s
+      pub told-listed : {part q : ℕ} {o : code.Obligation} → PlaceFound table groups operations at part q → PartTold part o → listed (obligation_is o) ≡ true
+      told-listed {part} p t =
+          let h = p.within d (reading-groups r) m at-inside in
+          let n = r.operations in
+          told-case (λ (x : Obligation). listed x ≡ true) part t (λ e. refl) (λ j e. lt-ltb j 16 (omega arith)) (λ j e. lt-ltb j 16 (omega arith))
 
 -- the first line of the obligation at a place of a part
 module _ {text labels before after : List ℕ} {part q from x : ℕ} {o : code.Obligation} (t : PartTold part o) (d : Dossier) (l : LabelsOf text labels d) (h : part < parts d) (low : q < part_size d part)
@@ -86,8 +74,7 @@ module _ {text labels before after : List ℕ} {part q from x : ℕ} {o : code.O
   first-line : Writes from (refuted_line d (obligation_of (check_at (subject_of d) (part_begin d part + q)))) before after x
   first-line =
       subst (λ (y : Obligation). Writes from (refuted_line d y) before after x)
-      (told-case (λ (y : Obligation). y ≡ obligation_of (check_at (subject_of d) (part_begin d part + q))) part t (λ e. sym (obligation-opening d part q low e))
-      (λ j e. sym (obligation-applying d part q low j e (omega arith))) (λ j e. sym (obligation-correcting d part q low j e (omega arith))))
+      (part-obligation d part q t h low)
       (w.line d l (told-case (ObligationIn d) part t (λ e. tt) (λ j e. omega arith) (λ j e. omega arith)))
 
 least-self : (n : ℕ) → min n n ≡ n
@@ -113,7 +100,7 @@ module _ {text labels table rows firsts groups : List ℕ} {operations : ℕ} (k
       → VerdictWritten text labels table rows firsts groups operations from before after r
   refuted-written {at} {part} {q} {from} {x} {y} {n} {r} {before} {a} {b} {after} s p told line lines looks count = record {
     lines = λ d g l m.
-        let e = looked k t s d g m in
+        let e = looked d g m t s in
         let i = failed-inside d at e in
         let o = reading-groups g in
         let h : at ≡ part_begin d part + q = p.is d o m i in
@@ -124,7 +111,7 @@ module _ {text labels table rows firsts groups : List ℕ} {operations : ℕ} (k
         (subst (λ (c : ℕ). Writes from (refuted_line d (obligation_of (check_at (subject_of d) c)) ++ witness_lines (subject_of d) (check_at (subject_of d) c) ++ count_line (suc at)) before after r)
         (sym h) (both-written (both-written w v) u));
     short =
-        let i = place_small k t s in
+        let i = place_small k.dossier k.arrays k.many t s in
         let c = count-short n (omega arith) in
         omega (arith, line.short, lines.short, count.end);
   }
@@ -136,7 +123,7 @@ module _ {text labels table rows firsts groups : List ℕ} {operations : ℕ} (k
         let e : look (subject_of d) (checks (subject_of d)) ≡ came all false = whole-look None d s g m (t.is d (reading-groups g) m) ∙ ap (λ (n : ℕ). came n false) (least-self all) in
         subst (λ (z : List ℕ). Writes from z before after r) (sym (accepted-lines d all e)) (both-written word count);
     short =
-        let z = all_small k t in
+        let z = all_small k.dossier k.arrays k.many t in
         omega (arith, accepted-long, word.end, count-short all (omega arith), count.end);
   }
 

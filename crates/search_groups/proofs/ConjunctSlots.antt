@@ -7,18 +7,17 @@ use Prim.Native.Nat.{ℕ, ◌+◌}
 use lib.Dec.{eqb}
 use lib.ListN.{length}
 use Rattle.lexical.specs.Symbols.{Name}
-use Rattle.form.specs.Tree.{Given, elements, Domain, given_set, range, Membership, is_in, not_in}
+use Rattle.form.specs.Tree.{Given, Domain, given_set, range, Membership, is_in, not_in}
 use Rattle.form.specs.Tree.{Term, number, name, group, prefix, binary, divided, listed, pairs, such, empty_set, empty_pairs, Items, only, also, Pairs, only_pair, also_pair}
 use Rattle.form.specs.Tree.{Pred, truth, falsity, negation, paren, quantified, connected, compared, member, within, related}
 use Rattle.form.specs.Codes.{node}
 use Rattle.table_places.specs.StaticRulesCarriers.{plain}
-use Rattle.table_places.specs.StaticRulesScope.{Scope, binding, element_of, place_in}
+use Rattle.table_places.specs.StaticRulesScope.{Scope, binding, element_of}
 use Rattle.table_places.specs.StaticRulesNames.{domain_carrier}
 use Rattle.table_nodes.specs.TableByNumber.{next_slot, related_shape}
-use Rattle.table_places.specs.ResolvedTable.{Slots, name_table, domain_table, term_table, items_table, pairs_table, pred_table}
+use Rattle.table_places.specs.ResolvedTable.{Slots, placed, slot_of, name_table, domain_table, term_table, items_table, pairs_table, pred_table}
 use Rattle.search_groups.specs.Conjuncts.{used_term, used_items, used_pairs, used_pred}
 use Rattle.search_groups.specs.GroupPromises.{slot_here, slots_at}
-use Rattle.search_groups.proofs.ScopePlaces.{slot_of}
 
 -- whole nodes with the slots u, whatever stands behind them
 data Holds : List ℕ → List ℕ → Type 0 where
@@ -45,12 +44,7 @@ none_in : {k i a b : ℕ} → eqb k 2 ≡ false → Holds (node k i a b) []
 unfolding slots_at slot_here
 none_in {k} {i} {a} {b} e = holds (λ c. ap (λ (t : Bool). cond t (a ∷ []) [] ++ slots_at c) e)
 
-abbrev placed : Option (Name × ℕ) → Option Given → Name → List ℕ
-placed (some w) g x = node 2 0 w.1 0
-placed none none x = node 1 0 0 0
-placed none (some g) x = node 1 0 (place_in (elements g) x) 0
-
-abbrev list_of : Option (Name × ℕ) → List ℕ
+abbrev pub list_of : Option (Name × ℕ) → List ℕ
 list_of none = []
 list_of (some w) = w.1 ∷ []
 

@@ -49,10 +49,6 @@ pub rows-first : (nodes spans : List ℕ) (ρ : Numbering) (i : ℕ) (os : List 
 rows-first nodes spans ρ i os out a f =
     record { left = os; at = i; front = []; rest = a; few = f; long = refl; whole = refl; sum = omega arith; written = sym (patch-none 18 out) }
 
--- the rows of an operation, by the place of its spans
-pub operation-read : {nodes spans : List ℕ} {j i : ℕ} {piece rows : List ℕ} → j ≡ i → OperationPut nodes spans j piece rows → OperationPut nodes spans i piece rows
-operation-read {nodes} {spans} {j} {i} {piece} {rows} e p = subst (λ (n : ℕ). OperationPut nodes spans n piece rows) e p
-
 pub rows_next : {nodes spans : List ℕ} {ρ : Numbering} {k : ℕ} {os : List Operation} {out now piece rows after : List ℕ} → RowsAhead nodes spans ρ k os out now
     → OperationPut nodes spans (9 + 4 * k) piece rows → after ≡ patch (18 + 8 * k) rows now → k < length os → 18 + 8 * k + 8 ≤ length out → RowsAhead nodes spans ρ (k + 1) os out after
 unfolding operation_rows

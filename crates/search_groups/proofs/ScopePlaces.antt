@@ -2,7 +2,7 @@
 use mathlib.Core.Path.{◌≡◌, refl, ap, ◌∙◌, sym, subst}
 use mathlib.Core.Bool.{Bool, true, false, cond}
 use mathlib.Core.List.{List, [], ◌∷◌, map}
-use mathlib.Core.Option.{Option, none, some}
+use mathlib.Core.Option.{Option, none, some, none-ne-some}
 use Prim.Native.Nat.{ℕ, ◌+◌, ◌-◌, ◌≤◌, ◌<◌}
 use native.Mathlib.Omega.{arith}
 use lib.Dec.{ltb}
@@ -12,7 +12,7 @@ use borrow.Author.Tests.{ltb-true, lt-ltb, le-ltb}
 use Rattle.lexical.specs.Lists.{same, any, find}
 use Rattle.refusals.specs.Refusals.{fault, name_unknown}
 use Rattle.lexical.specs.Symbols.{Name, Ending, no_ending, prime, query, shriek}
-use Rattle.lexical.proofs.WordLaws.{same_refl, same_true}
+use Rattle.lexical.proofs.WordLaws.{same_refl, same_true, same_turned}
 use Rattle.form.specs.Tree.{Letters, Given, elements, name}
 use Rattle.form.specs.Codes.{Numbering, node, number_of_name, name_number}
 use Rattle.table_places.specs.StaticRulesCarriers.{Carrier, Variable, same_name, plain}
@@ -22,15 +22,12 @@ use Rattle.table_places.specs.StaticRulesNames.{of_name, judge_term}
 use Rattle.type_rules.specs.TypesByNumber.{entry}
 use Rattle.table_places.proofs.NamesReachTables.{Numbered}
 use Rattle.table_places.proofs.NamesTypesAgreeTypes.{no-yes}
-use Rattle.table_places.proofs.NamesTypesAgreeScope.{any-there, find-here, find-there}
+use Rattle.table_places.proofs.NamesTypesAgreeScope.{any-there, find-here, find-there, apart}
 use Rattle.table_nodes.specs.TableByNumber as table
 use Rattle.table_nodes.specs.TableByNumber.{Places, next_slot}
 use Rattle.table_places.specs.ResolvedTable as resolved
-use Rattle.table_places.specs.ResolvedTable.{Slots}
+use Rattle.table_places.specs.ResolvedTable.{Slots, placed, slot_of}
 use Rattle.refusals.proofs.FaultLists.{not_nil}
-
-abbrev pub slot_of : Slots → Name → Option (Name × ℕ)
-slot_of W x = find (λ (w : Name × ℕ). same_name w.0 x) W
 
 pub slot-here : (w : Name × ℕ) (W : Slots) (y : Name) → same_name w.0 y ≡ true → slot_of (w ∷ W) y ≡ some w
 slot-here w W y e = find-here (λ (v : Name × ℕ). same_name v.0 y) w W e
@@ -52,10 +49,6 @@ pub record PlacesShown (ρ : Numbering) (P : Letters → Type 0) (Γ : Scope) (W
 
 -- ---- names ----
 
-abbrev IsNone : {A : Type 0} → Option A → Type 0
-IsNone none = Unit {0}
-IsNone (some a) = ⊥
-
 -- a name is found among some that are called so, or it is none of their names
 none_any : {A : Type 0} (f : A → Name) (x : Name) (bs : List A) → find (λ (a : A). same_name (f a) x) bs ≡ none → any (λ (y : Name). same_name y x) (map f bs) ≡ false
 unfolding find any
@@ -64,7 +57,7 @@ none_any {A} f x (a ∷ bs) e = on (same_name (f a) x) refl (none_any f x bs) e
   where
     on : (b : Bool) → same_name (f a) x ≡ b → (find (λ (a : A). same_name (f a) x) bs ≡ none → any (λ (y : Name). same_name y x) (map f bs) ≡ false)
         → ◌≡◌ {A = Option A} (elim b [ true ↦ some a | false ↦ find (λ (a : A). same_name (f a) x) bs ]) none → any (λ (y : Name). same_name y x) (f a ∷ map f bs) ≡ false
-    on true p r h = absurd (subst IsNone (sym h) tt)
+    on true p r h = absurd (none-ne-some a (sym h))
     on false p r h = any-there (λ (y : Name). same_name y x) (f a) (map f bs) p ∙ r h
 
 any_none : {A : Type 0} (f : A → Name) (x : Name) (bs : List A) → any (λ (y : Name). same_name y x) (map f bs) ≡ false → find (λ (a : A). same_name (f a) x) bs ≡ none
@@ -76,12 +69,6 @@ any_none {A} f x (a ∷ bs) e = on (same_name (f a) x) refl (any_none f x bs) e
         → ◌≡◌ {A = Bool} (elim b [ true ↦ true | false ↦ any (λ (y : Name). same_name y x) (map f bs) ]) false → find (λ (a : A). same_name (f a) x) (a ∷ bs) ≡ none
     on true p r h = no-yes (sym h)
     on false p r h = find-there (λ (a : A). same_name (f a) x) a bs p ∙ r h
-
--- placed of table_places/specs/ResolvedTable, which is private there
-abbrev placed : Option (Name × ℕ) → Option Given → Name → List ℕ
-placed (some w) g x = node 2 0 w.1 0
-placed none none x = node 1 0 0 0
-placed none (some g) x = node 1 0 (place_in (elements g) x) 0
 
 slot_placed : (n w : ℕ) → n ≡ w → w < 64 → table.placed n ≡ node 2 0 w 0
 unfolding table.placed
@@ -137,17 +124,6 @@ module _ (ρ : Numbering) (P : Letters → Type 0) (ν : Numbered ρ P) (Γ : Sc
   unfolding number_of_name
   this = get_or-set_same W (number_of_name ρ x no_ending) s 0 (omega (arith, ν.small x px, w.long))
 
-  -- other letters have another number, whatever their endings
-  apart : (y : Letters) → P y → same y x ≡ false → ρ y ≡ ρ x → ⊥
-  apart y py h e = no-yes (sym h ∙ ap (same y) (sym (ν.own y x py px e)) ∙ same_refl y)
-
-  turned : (y : Letters) → same y x ≡ false → same x y ≡ false
-  turned y e = on (same x y) refl
-    where
-      on : (b : Bool) → same x y ≡ b → b ≡ false
-      on true h = no-yes (sym e ∙ ap (same y) (same_true x y h) ∙ same_refl y)
-      on false h = refl
-
   PlaceAt : Name → Type 0
   PlaceAt y = PlaceIs (slot_of ((plain x, s) ∷ W') y) (element_of Γ.givens y) y (entry (set W (number_of_name ρ x no_ending) s) (name_number ρ y))
 
@@ -165,7 +141,7 @@ module _ (ρ : Numbering) (P : Letters → Type 0) (ν : Numbered ρ P) (Γ : Sc
     where
       on : (e : Ending) (b : Bool) → same y.letters x ≡ b → PlaceAt (record { letters = y.letters; ending = e })
       on no_ending true q = subst (λ (l : Letters). PlaceAt (plain l)) (sym (same_true y.letters x q)) this_place
-      on no_ending false q = other_place (plain y.letters) py (turned y.letters q) (λ e. apart y.letters py q (omega arith))
+      on no_ending false q = other_place (plain y.letters) py (same_turned x y.letters q) (λ e. apart ρ P ν x y.letters px py q (omega arith))
       on prime b q = other_place (record { letters = y.letters; ending = prime }) py refl (omega arith)
       on query b q = other_place (record { letters = y.letters; ending = query }) py refl (omega arith)
       on shriek b q = other_place (record { letters = y.letters; ending = shriek }) py refl (omega arith)

@@ -5,16 +5,15 @@ use mathlib.Core.Option.{Option, none, some}
 use Prim.Native.Nat.{ℕ, suc, ◌+◌}
 use lib.ListN.{length, length-append}
 use Rattle.lexical.specs.Symbols.{Name}
-use Rattle.form.specs.Tree.{Given, elements, Domain, given_set, range}
+use Rattle.form.specs.Tree.{Given, Domain, given_set, range}
 use Rattle.form.specs.Tree.{Term, number, name, group, prefix, binary, divided, listed, pairs, such, empty_set, empty_pairs, Items, only, also, Pairs, only_pair, also_pair}
 use Rattle.form.specs.Tree.{Pred, truth, falsity, negation, paren, quantified, connected, compared, member, within, related}
 use Rattle.form.specs.Codes.{Numbering, node, name_number, term_width, pred_width, domain_width, domain_codes, term_codes, items_codes, pairs_codes, pred_codes}
 use Rattle.table_places.specs.StaticRulesCarriers.{plain}
-use Rattle.table_places.specs.StaticRulesScope.{Scope, binding, element_of, place_in}
+use Rattle.table_places.specs.StaticRulesScope.{Scope, binding, element_of}
 use Rattle.table_places.specs.StaticRulesNames.{domain_carrier}
 use Rattle.table_nodes.specs.TableByNumber.{next_slot}
-use Rattle.table_places.specs.ResolvedTable.{Slots, name_table, domain_table, term_table, items_table, pairs_table, pred_table}
-use Rattle.search_groups.proofs.ScopePlaces.{slot_of}
+use Rattle.table_places.specs.ResolvedTable.{Slots, placed, slot_of, name_table, domain_table, term_table, items_table, pairs_table, pred_table}
 
 -- two lists with as many numbers
 data Even : List ℕ → List ℕ → Type 0 where
@@ -30,11 +29,6 @@ infixr 5 ◌&◌
 -- four numbers a node
 nodes : {k i a b k' i' a' b' : ℕ} → Even (node k i a b) (node k' i' a' b')
 nodes = even refl
-
-abbrev placed : Option (Name × ℕ) → Option Given → Name → List ℕ
-placed (some w) g x = node 2 0 w.1 0
-placed none none x = node 1 0 0 0
-placed none (some g) x = node 1 0 (place_in (elements g) x) 0
 
 name-even : (Γ : Scope) (W : Slots) (x : Name) (i n : ℕ) → Even (name_table Γ W x) (node 2 i n 0)
 unfolding name_table

@@ -1,5 +1,5 @@
 // The groups of variables: how many each one has, and the places of their nodes.
-ghost use Rattle.std.specs.Prelude.{◌≡◌, ◌+◌, ◌≤◌, length};
+ghost use Rattle.std.specs.Prelude.{◌≡◌, ◌+◌, ◌*◌, ◌≤◌, ◌<◌, length};
 ghost use Rattle.search_groups.specs.GroupPromises.{Picked, PickedAll, GroupPut, OperationPut, RowsPut, Grouped};
 
 use form::name_endings::{INPUT, OUTPUT, PLAIN};
@@ -32,10 +32,7 @@ fn pick(x: u16, at: usize, ending: u16, c: usize, places: &mut [u16]) -> usize
     requires { (at ≤ 65535) × (c ≤ length places.old) × (length places.old ≤ 65535) }
     ensures { Picked x at ending c places.old places.new result }
 {
-    if x % endings::COUNT != ending {
-        return c;
-    }
-    if places.len() <= c {
+    if x % endings::COUNT != ending || places.len() <= c {
         return c;
     }
     places[c] = at as u16;
@@ -67,15 +64,14 @@ fn group(nodes: &[u16], from: usize, to: usize, ending: u16, row: &mut [u16])
     row[0] = c as u16;
 }
 
-// The rows of an operation: its inputs, and its outputs.
-fn operation(p: &Parts<'_>, j: usize, rows: &mut [u16])
-    requires { (j + 2 ≤ 80) × (length rows.old ≡ 8) }
-    ensures { OperationPut p.now.nodes.now p.now.spans.now j rows.old rows.new }
+// The rows of the operation k: its inputs, and its outputs.
+fn operation(p: &Parts<'_>, k: usize, rows: &mut [u16])
+    requires { (k < 65536) × (length rows.old ≡ 8) }
+    ensures { OperationPut p.now.nodes.now p.now.spans.now (9 + 4 * k) rows.old rows.new }
 {
-    let from = p.span(j);
-    let to = p.span(j + 1);
-    group(p.nodes, from, to, INPUT, &mut rows[..INPUTS_ROW]);
-    group(p.nodes, from, to, OUTPUT, &mut rows[INPUTS_ROW..]);
+    let o = p.operation(k);
+    group(p.nodes, o.first, o.last, INPUT, &mut rows[..INPUTS_ROW]);
+    group(p.nodes, o.first, o.last, OUTPUT, &mut rows[INPUTS_ROW..]);
 }
 
 fn operation_rows(p: &Parts<'_>, out: &mut [u16; GROUPS])
@@ -83,7 +79,7 @@ fn operation_rows(p: &Parts<'_>, out: &mut [u16; GROUPS])
 {
     for k in 0..p.operations.min(span::MOST) {
         let at = STATES_ROWS + OPERATION_ROWS * k;
-        operation(p, span::of_operation(k), &mut out[at..at + OPERATION_ROWS]);
+        operation(p, k, &mut out[at..at + OPERATION_ROWS]);
     }
 }
 

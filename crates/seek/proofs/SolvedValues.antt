@@ -13,7 +13,8 @@ use lib.Signed.{lt_z}
 use Rattle.lexical.specs.Lists.{all}
 use Rattle.std.specs.Prelude.{Option, Some, None}
 use Rattle.slot_carriers.specs.Cells.{count_in, value_in, Sought}
-use Rattle.slot_carriers.proofs.Halving.{either, less_self}
+use Rattle.std.proofs.lemmas.Bool.{cases_lt}
+use Rattle.slot_carriers.proofs.CarriersValues.{not_less}
 use Rattle.evaluator.specs.EvaluationEvaluationByNumber.{Values, Inside}
 use Rattle.evaluator.specs.EvaluationPromises.{TermRuns, TermAnswers}
 use Rattle.evaluator.proofs.NodeLaws.{term_runs}
@@ -25,7 +26,7 @@ use Rattle.seek.specs.AimPromises.{Says, Equates, AimAsked, AimAnswers}
 use Rattle.seek.proofs.LevelTests.{hold}
 use Rattle.seek.proofs.SlotPlaces.{concrete-plain, abstract-plain}
 use Rattle.seek.proofs.StoredPoints.{stored-plain, stored-primed}
-use Rattle.lexical.proofs.BooleanTests.{not-true}
+use Rattle.std.proofs.lemmas.Bool.{false_from_ne_true}
 
 -- ---- arrays in which the variable has another value: in the array of a side only its own slot is changed
 
@@ -76,7 +77,7 @@ module _ {cells : List ℕ} {slot x : ℕ} {δ : Point} {a : List (List ℤ)} (s
         }
 
   before-changed : slot < 38 → Changed cells slot x 0 slot δ a
-  before-changed low = go (either slot 22) (either slot 30)
+  before-changed low = go (cases_lt slot 22) (cases_lt slot 30)
     where
       go : (slot < 22) ⊎ (22 ≤ slot) → (slot < 30) ⊎ (30 ≤ slot) → Changed cells slot x 0 slot δ a
       go (inl h) k = plain-changed h
@@ -136,7 +137,7 @@ asks : {table plan cells : List ℕ} {to at : ℕ} {fs : List (Point → Bool)} 
 unfolding all
 asks {to = to} {at = at} k (no_tests h) l m = absurd (let z : to ≤ at = h in let f : ⊥ = omega arith in f)
 asks {table} {plan} {cells} {at = at} k (more_tests {f = f} {fs = fs} h t r) l m =
-    elim (either at k) [
+    elim (cases_lt at k) [
       | inl n ↦ (
           let rest = asks k r (omega arith) m in
           record { test = rest.test; is = rest.is; decides = λ δ e. both (f δ) (hold fs δ) (rest.decides δ e) })
@@ -176,12 +177,12 @@ module _ {table plan cells : List ℕ} {u l slot n : ℕ} {a : List (List ℤ)} 
       fails tests δ s t x h no_value =
           let k = asked-at t in
           k.decides (moved δ slot x)
-          (not-true (k.test (moved δ slot x)) (λ z. no_value (told w.says (test-is k.is) s q.slot_low v x (subst (λ (i : ℕ). x < i) q.count h) z)))
+          (false_from_ne_true (k.test (moved δ slot x)) (λ z. no_value (told w.says (test-is k.is) s q.slot_low v x (subst (λ (i : ℕ). x < i) q.count h) z)))
 
       apart : (i j : ℕ) → i < j → j < count_in cells slot → value_in cells slot i ≡ y → value_in cells slot j ≡ y → ⊥
       apart i j o h e g =
           subst T
-          (sym (ap (λ (z : ℤ). lt_z z (value_in cells slot j)) (sym (e ∙ sym g)) ∙ q.readable.rising i j o h) ∙ less_self (value_in cells slot j)) tt
+          (sym (ap (λ (z : ℤ). lt_z z (value_in cells slot j)) (sym (e ∙ sym g)) ∙ q.readable.rising i j o h) ∙ not_less (value_in cells slot j)) tt
 
       module _ {o : Option ℕ} (found : Sought (λ d. value_in cells slot d) (count_in cells slot) y o) where
         found-at : {k : Option ℕ} → o ≡ k → Sought (λ d. value_in cells slot d) (count_in cells slot) y k

@@ -8,6 +8,7 @@ use mathlib.Core.List.{List, [], ◌∷◌}
 use lib.ListN.{length}
 use lib.Seq.{ext_get_or}
 use lib.IntN.{ℤ}
+use Rattle.lexical.proofs.BooleanTests.{and-right-false}
 use Rattle.points.specs.Points.{Point, moved, span, placed, Shows}
 use Rattle.points.specs.Searches.{level_holds, under, slot_in, Planned}
 use Rattle.seek.specs.SeekPromises.{LevelAsked, LevelAnswers, SeekAsked, SeekAnswers}
@@ -40,16 +41,12 @@ under-false cells tests l [] δ k e = e
 under-false cells tests l (s ∷ ss) δ k e = ap (λ (b : Bool). b && under cells tests (l + 1) ss (moved δ s (k / span cells ss)) (k % span cells ss)) e
 
 -- as do those of the next one, at the value that the first variable has there
-and_false : (b : Bool) → (b && false) ≡ false
-and_false true = refl
-and_false false = refl
-
 pub under_next : (cells : List ℕ) (tests : ℕ → List (Point → Bool)) (l s : ℕ) (ss : List ℕ) (δ : Point) (k : ℕ)
     → level_holds tests (l + 1) (moved δ s (k / span cells ss)) ≡ false → under cells tests l (s ∷ ss) δ k ≡ false
 unfolding under
 under_next cells tests l s ss δ k e =
     ap (λ (b : Bool). level_holds tests l δ && b) (under-false cells tests (l + 1) ss (moved δ s (k / span cells ss)) (k % span cells ss) e)
-    ∙ and_false (level_holds tests l δ)
+    ∙ and-right-false (level_holds tests l δ) false refl
 
 some-slots : {A : Type 0} (s : ℕ) (ss : List ℕ) → length (s ∷ ss) ≡ 0 → A
 some-slots s ss e = absurd (let z : suc (length ss) ≡ 0 = e in let f : ⊥ = omega arith in f)

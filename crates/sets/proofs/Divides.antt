@@ -1,6 +1,6 @@
 -- The manual's laws of div and mod (4.4), for every divisor: by 0 the two orders say nothing. Assumes nothing.
 use mathlib.Core.Path.{◌≡◌, refl, sym, ap, ◌∙◌}
-use mathlib.Core.Bool.{Bool, true, false, cond}
+use mathlib.Core.Bool.{Bool, true, cond, false≢true}
 use Prim.Native.Nat.{ℕ, zero, suc, ◌+◌, ◌-◌, ◌*◌, ◌/◌, ◌%◌, ◌<◌, ◌≤◌}
 use native.Mathlib.Nat.{div-add-mod', suc-mul, mod-lt, zero-lt-suc, zero-mul, add-zero, le_of_suc-le-suc}
 use native.Mathlib.Omega.{arith}
@@ -74,9 +74,6 @@ neg_most : (r : ℕ) → le_z (neg_ℤ (pos r)) (pos 0) ≡ true
 neg_most zero = refl
 neg_most (suc r) = refl
 
-clash : {A : Type 0} → false ≡ true → A
-clash e = absurd (let z : ◌≡◌ {A = ℕ} 0 1 = cc in omega arith)
-
 pub divides : (a b : ℤ) → Divides a b (floor_div a b) (floor_mod a b)
 divides a (pos b) = record { parts = parts a (pos b); above = over; below = under }
   where
@@ -87,7 +84,7 @@ divides a (pos b) = record { parts = parts a (pos b); above = over; below = unde
 
     under : lt_z (pos b) (pos 0) ≡ true → (lt_z (pos b) (floor_mod a (pos b)) ≡ true) × (le_z (floor_mod a (pos b)) (pos 0) ≡ true)
     under h = absurd (let z : b < 0 = ltb-true b 0 h in omega arith)
-divides a (negsuc b) = record { parts = parts a (negsuc b); above = λ h. clash h; below = under }
+divides a (negsuc b) = record { parts = parts a (negsuc b); above = λ h. absurd (false≢true h); below = under }
   where
     under : lt_z (negsuc b) (pos 0) ≡ true → (lt_z (negsuc b) (floor_mod a (negsuc b)) ≡ true) × (le_z (floor_mod a (negsuc b)) (pos 0) ≡ true)
     under h =

@@ -7,7 +7,7 @@ use native.Mathlib.Omega.{arith}
 use lib.Arith.{digits_div}
 use lib.Dec.{ltb, lit<, lit≤}
 use lib.IntN.{ℤ, pos, negsuc, neg_ℤ, nat_abs, sub_ℕ, ◌+ℤ◌, ◌-ℤ◌, ◌*ℤ◌, -ℤ_one}
-use lib.Signed.{mag, mag_rem, quot_z, rem_z, lt_z}
+use lib.Signed.{mag, mag_rem, quot_z, rem_z, lt_z, nat_abs-le}
 use borrow.Author.Tests.{ltb-true, le-ltb}
 use mir.Syntax.{w32, w64}
 use mir.Val.{SFits, of_z, to_z}
@@ -113,14 +113,11 @@ zero-above (pos a) y e h = sym (ap (floor_div (pos a)) e ∙ ap pos (div-zero a)
 zero-above (negsuc a) y e h = absurd (let z : ◌≡◌ {A = ℕ} 0 1 = cc in omega arith)
 
 -- ---- bounds
+-- Form 8: the library's laws of neg_abs, mag_abs and times_abs are private.
 
 neg_mag : (n : ℕ) → mag (neg_ℤ (pos n)) ≤ n
 neg_mag zero = omega arith
 neg_mag (suc n) = omega arith
-
-pub abs-small : (z : ℤ) (n : ℕ) → mag z < n → nat_abs z ≤ n
-abs-small (pos a) n h = omega arith
-abs-small (negsuc a) n h = omega arith
 
 pub neg_abs : (n : ℕ) → nat_abs (neg_ℤ (pos n)) ≡ n
 neg_abs zero = refl
@@ -176,6 +173,7 @@ add-mag (negsuc a) (negsuc b) m n h k = omega arith
 pub wide : {z a : ℤ} → SFits w32 z → a ≡ to_z w32 (of_z w32 z) → to_z w64 (of_z w64 a) ≡ z
 wide f e = rw (e ∙ to_z-of_z f) (to_z-of_z {w = w64} (record { sfits = lt_of_lt_of_le f.sfits (lit≤ tt) }))
 
+-- Form 8: lexical has this law as `beq-true`, and sets stands on no crate.
 pub beq_same : (p q : Bool) → beq p q ≡ true → p ≡ q
 beq_same true true e = refl
 beq_same true false e = sym e
@@ -211,7 +209,7 @@ module _ {x y a b : ℤ} (fx : SFits w32 x) (fy : SFits w32 y) (ex : a ≡ to_z 
   over = ap₂ rem_z (wide fx ex) (wide fy ey)
 
   quot_mag : mag (quot_z x y) < 2 ^ 31 + 1
-  quot_mag = omega (arith, mag_abs (quot_z x y), quot_abs x y, abs-small x (2 ^ 31) fx.sfits)
+  quot_mag = omega (arith, mag_abs (quot_z x y), quot_abs x y, nat_abs-le x fx.sfits)
 
   pub quot_fits : SFits w64 (quot_z X Y)
   quot_fits = rw ratio (record { sfits = lt_of_lt_of_le quot_mag (lit≤ tt) })
@@ -248,13 +246,13 @@ module _ {x y a b : ℤ} (fx : SFits w32 x) (fy : SFits w32 y) (ex : a ≡ to_z 
   -- what is left, for a q that is the quotient
   module _ (q : ℤ) (e : q ≡ floor_div x y) where
     quotient_abs : nat_abs q ≤ 2 ^ 31
-    quotient_abs = subst (λ (z : ℤ). nat_abs z ≤ 2 ^ 31) (sym e) (omega (arith, floor_abs x y, abs-small x (2 ^ 31) fx.sfits))
+    quotient_abs = subst (λ (z : ℤ). nat_abs z ≤ 2 ^ 31) (sym e) (omega (arith, floor_abs x y, nat_abs-le x fx.sfits))
 
     quotient-back : to_z w64 (of_z w64 q) ≡ q
     quotient-back = to_z-of_z {w = w64} (record { sfits = lt_of_le_of_lt (mag_abs q) (lt_of_le_of_lt quotient_abs (lit< tt)) })
 
     product_abs : nat_abs (q *ℤ y) ≤ 2 ^ 31 * 2 ^ 31
-    product_abs = subst (λ (n : ℕ). n ≤ 2 ^ 31 * 2 ^ 31) (sym (times_abs q y)) (mul-le-mul quotient_abs (abs-small y (2 ^ 31) fy.sfits))
+    product_abs = subst (λ (n : ℕ). n ≤ 2 ^ 31 * 2 ^ 31) (sym (times_abs q y)) (mul-le-mul quotient_abs (nat_abs-le y fy.sfits))
 
     product : to_z w64 (of_z w64 q) *ℤ Y ≡ q *ℤ y
     product = ap₂ ◌*ℤ◌ quotient-back (wide fy ey)

@@ -9,6 +9,7 @@ use lib.Dec.{eqb}
 use Rattle.sets.specs.Sets.{has, bit, set_from}
 use Rattle.sets.proofs.Members.{has-zero, has-suc, has-past, bit-half, bit-odd, bit-back}
 
+-- Form 8: the library has this law in `core`, which a crate cannot name.
 pub byte_low : (b : Bool) → bool_byte b ≤ 1
 byte_low true = omega arith
 byte_low false = omega arith

@@ -120,6 +120,7 @@ same-members (suc n) s t h l e =
     let o : s % 2 ≡ t % 2 = same-odd (s % 2) (t % 2) (omega arith) (omega arith) (sym (has-zero s) ∙ e 0 (omega arith) ∙ has-zero t) in
     omega arith
 
+-- Form 8: the library's law of this is private.
 pub under-power : (n : ℕ) → n < 2 ^ n
 under-power zero = omega arith
 under-power (suc n) = omega (arith, under-power n, pow-suc 2 n)

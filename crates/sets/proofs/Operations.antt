@@ -112,6 +112,7 @@ module _ (s t : ℕ) (hs : s < 2 ^ width) (ht : t < 2 ^ width) where
 double-even : (k : ℕ) → 2 ^ suc k % 2 ≡ 0
 double-even k = omega (arith, pow-suc 2 k)
 
+-- Form 8: the library's law of this is private.
 double-half : (k : ℕ) → 2 ^ suc k / 2 ≡ 2 ^ k
 double-half k = omega (arith, pow-suc 2 k)
 

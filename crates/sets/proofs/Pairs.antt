@@ -1,6 +1,6 @@
 -- Sets of pairs by their rows: row i of a set of pairs with m second elements is the m bits from i * m on. Assumes nothing.
 use mathlib.Core.Path.{◌≡◌, refl, sym, ap, ap₂, ◌∙◌}
-use mathlib.Core.Bool.{Bool, true, false, not, ◌||◌}
+use mathlib.Core.Bool.{Bool, true, false, not, ◌||◌, or-false}
 use Prim.Native.Nat.{ℕ, zero, suc, ◌+◌, ◌-◌, ◌*◌, ◌/◌, ◌%◌, ◌^◌, ◌<◌, ◌≤◌}
 use native.Mathlib.Nat.{mod-lt, zero-add, add-zero, add-suc, mul-le-mul}
 use native.Mathlib.Decide.{dec_lt}
@@ -65,10 +65,6 @@ some_more f k (suc n) = go (f k) (some_more f (suc k) n ∙ (let z : suc k + n �
         → elim b [ true ↦ true | false ↦ some_from f (suc k) (suc n) ] ≡ (elim b [ true ↦ true | false ↦ some_from f (suc k) n ] || f (k + suc n))
     go true e = refl
     go false e = e
-
-or-false : (b : Bool) → (b || false) ≡ b
-or-false true = refl
-or-false false = refl
 
 -- numbers that fail the test change nothing
 some-past : (f : ℕ → Bool) (k n d : ℕ) → ((i : ℕ) → k + n ≤ i → f i ≡ false) → some_from f k (n + d) ≡ some_from f k n

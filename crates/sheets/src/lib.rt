@@ -6,18 +6,14 @@ ghost use Rattle.std.specs.Prelude.{◌≡◌, ℕ, [], ◌∷◌, ◌++◌, ◌
 ghost use Rattle.text_places.specs.PlacePromises.{LineStart};
 
 use bounded_texts::BoundedText;
-use pieces::{DIGITS, Writer};
-use text_places::{before, is_blank, line_start};
+use itoa::Buffer;
+use text_places::{NEWLINE, SPACE, is_blank, line_start};
 
 // How many bytes a sheet has.
 pub const SHEET: usize = 65536;
 
 // The widest line.
 pub const COLUMNS: usize = 100;
-
-const SPACE: u8 = b' ';
-
-const NEWLINE: u8 = b'\n';
 
 // Form 6: as `bounded_texts::BoundedText`, which it is made of.
 #[derive(Drop)]
@@ -121,14 +117,8 @@ impl Sheet {
 
     // A number.
     pub fn put_number(&mut self, n: usize, indent: usize) {
-        let mut digits = [0u8; DIGITS];
-        let mut w = Writer {
-            out: &mut digits,
-            at: 0,
-        };
-        w.put_decimal(n as u64);
-        let end = w.at;
-        self.flow(before(&digits, end), indent);
+        let mut digits = Buffer::new();
+        self.flow(digits.format(n).as_bytes(), indent);
     }
 
     // Spaces up to a column, on the next line where this one is past it.

@@ -8,7 +8,7 @@ use lib.Dec.{eqb, ltb}
 use lib.ListN.{get_or}
 use lib.IntN.{ℤ, pos, ◌+ℤ◌, ◌-ℤ◌}
 use lib.Signed.{lt_z}
-use Rattle.std.specs.Prelude.{Option, Some, None}
+use Rattle.std.specs.Prelude.{None}
 use Rattle.form.specs.Tree.{relation, partial, total}
 use Rattle.carriers.specs.StaticRulesCarriers.{Carrier, elements_of, numbers, subsets_of, pairs_in, count_of}
 use Rattle.carriers.specs.MeaningValues.{Value}
@@ -16,7 +16,6 @@ use Rattle.carriers.specs.MeaningBindings.{values_of}
 use Rattle.carriers.specs.ValuesByNumber.{pair_set_at, value_at}
 use Rattle.carriers.proofs.Values.{values-at, values-rise}
 use Rattle.slot_carriers.specs.Cells.{count_in, shape_in, first_in, value_in, Reached, Readable, Sought, PairsCell, Shaped, CellOf}
-use Rattle.slot_carriers.proofs.Halving.{place-only}
 
 -- a cell's d-th value by its shape, its first number and what its list has
 abbrev by_shape : (s a d l : ℕ) → ℤ
@@ -80,14 +79,6 @@ module _ (cells : List ℕ) (slot : ℕ) where
 
         less : (d e : ℕ) → d < e → e < count_of c → d < count_of c
         less d e l h = omega arith
-
-    -- the place of a value of the carrier is its number in the fixed order
-    pub place-of-value : (o : Option ℕ) (d : ℕ) (x : ℤ) → Sought (λ (k : ℕ). value_in cells slot k) (count_in cells slot) x o → d < count_of c → (value_at c d).code ≡ x → o ≡ Some d
-    place-of-value o d x w h q = place-only (λ (k : ℕ). value_in cells slot k) (count_in cells slot) x readable.rising o d w (counted h) (value_of d h ∙ q)
-
-    -- a place has the value; none says that no value is x
-    pub value-at-place : (r : ℕ) (x : ℤ) → Sought (λ (k : ℕ). value_in cells slot k) (count_in cells slot) x (Some r) → (r < count_of c) × ((value_at c r).code ≡ x)
-    value-at-place r x w = (below w.0, sym (value_of r (below w.0)) ∙ w.1)
 
     pub no_place : (d : ℕ) (x : ℤ) → Sought (λ (k : ℕ). value_in cells slot k) (count_in cells slot) x None → d < count_of c → (value_at c d).code ≡ x → ⊥
     no_place d x w h q = w d (counted h) (value_of d h ∙ q)

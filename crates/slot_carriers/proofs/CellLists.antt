@@ -11,7 +11,7 @@ use borrow.Author.Tests.{ltb-true}
 use Rattle.std.proofs.lemmas.List.{get_or-take, get_or-drop, length-take-le, length-drop}
 use Rattle.slot_carriers.specs.Cells.{count_in, shape_in, first_in, value_in, Readable}
 use Rattle.slot_carriers.proofs.ShapedValues.{listed-value}
-use Rattle.slot_carriers.proofs.Halving.{either}
+use Rattle.std.proofs.lemmas.Bool.{cases_lt}
 
 -- n numbers of a list, from the place a on
 pub part-long : (xs : List ℕ) (a n : ℕ) → a + n ≤ length xs → length (take (a + n - a) (drop a xs)) ≡ n
@@ -43,7 +43,7 @@ module _ (cells : List ℕ) (slot n : ℕ) (r : Readable cells slot) (e : n ≡ 
       omega arith
 
   pub list_rising : (i j : ℕ) → i ≤ j → j < n → get_or list i 0 ≤ get_or list j 0
-  list_rising i j h k = go (either i j)
+  list_rising i j h k = go (cases_lt i j)
     where
       go : (i < j) ⊎ (j ≤ i) → get_or list i 0 ≤ get_or list j 0
       go (inl g) = below i j g k

@@ -17,7 +17,7 @@ use Rattle.slot_carriers.specs.Cells.{count_in, shape_in, first_in, Listed, Pair
 use Rattle.slot_carriers.specs.CellGroups.{CellsOf}
 use Rattle.slot_carriers.specs.TypeNodes.{TypeNode, Placed, ListBetween, CellMade}
 use Rattle.slot_carriers.specs.DeclaredGroups.{NodesOf, Declared, CellsMade, Copied}
-use Rattle.slot_carriers.proofs.Halving.{either}
+use Rattle.std.proofs.lemmas.Bool.{cases_lt}
 
 -- the numbers of the slot s are at t, and what is between two places is as it was
 pub record SameCell (old : List ℕ) (s : ℕ) (new : List ℕ) (t from end : ℕ) : Type 0 where
@@ -172,7 +172,7 @@ module _ (table groups : List ℕ) (p n slot at next r : ℕ) (old mid new : Lis
   made_more =
       record {
         made = made_cells;
-        lists = λ j u k. lists-more j u k (either slot j);
+        lists = λ j u k. lists-more j u k (cases_lt slot j);
         onward = omega (arith, c.onward, m.onward);
         end = end_more;
         below = λ i k. m.below i (under i k) ∙ c.below i k;

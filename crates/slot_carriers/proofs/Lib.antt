@@ -1,6 +1,5 @@
 -- Values that rise, and the place of a number among them; that a cell's values are those of its carrier; the bindings of a group; cells made of types' nodes, kept and copied.
 pub mod ShapedValues
-pub mod Halving
 pub mod Places
 pub mod CellLists
 pub mod CarrierCells

@@ -10,7 +10,7 @@ use Rattle.std.specs.Prelude.{Option, Some, None, Result, Ok, Err, MatchResult}
 use Rattle.std.specs.Result.{result_ok, OkIff}
 use Rattle.std.specs.Int.{FitsUnsignedBits}
 use Rattle.slot_carriers.specs.Cells.{Sought}
-use Rattle.slot_carriers.proofs.Halving.{either}
+use Rattle.std.proofs.lemmas.Bool.{cases_lt}
 
 -- ---- the same values, the same number, the same count
 
@@ -38,7 +38,7 @@ in_list xs {z} {x} {k} {o} t (Err i) q f g w e =
     subst (Sought (λ (d : ℕ). pos (get_or xs d 0)) (length xs) x) (sym e) none
   where
     none : (d : ℕ) → d < length xs → pos (get_or xs d 0) ≡ x → ⊥
-    none d h j = go (either d i)
+    none d h j = go (cases_lt d i)
       where
         same : get_or xs d 0 ≡ k
         same = pos-same (j ∙ sym q ∙ number-is t f g)

@@ -7,12 +7,12 @@ use native.Mathlib.Omega.{arith}
 use lib.Dec.{lit<, lit≤}
 use lib.ListN.{get_or}
 use lib.IntN.{ℤ, pos, negsuc, nat_abs, ◌+ℤ◌, ◌-ℤ◌}
-use lib.Signed.{mag}
+use lib.Signed.{mag, nat_abs-le}
 use borrow.Author.Tests.{eq-eqb, ne_eqb, lt-ltb, le-ltb}
 use mir.Syntax.{w64}
 use mir.Val.{SFits, of_z, to_z}
 use mir.Facts.{to_z-of_z, to_z_pos}
-use Rattle.sets.proofs.Floor.{add-mag, mag_abs, abs-small}
+use Rattle.sets.proofs.Floor.{add-mag, mag_abs}
 use Rattle.slot_carriers.specs.Cells.{shape_in, first_in, value_in}
 
 module _ (cells : List ℕ) (slot d s : ℕ) (e : s ≡ shape_in cells slot) where
@@ -47,7 +47,7 @@ module _ {a : ℕ} {x : ℤ} (e : x ≡ pos a) (l : a < 4294967296) where
   first-back = to_z-of_z first-fits ∙ first
 
   pub first-small : nat_abs (to_z w64 (of_z w64 (to_z w64 (of_z w64 x) -ℤ pos 1000))) ≤ 4294968296
-  first-small = subst (λ (z : ℤ). nat_abs z ≤ 4294968296) (sym first-back) (abs-small (pos a -ℤ pos 1000) 4294968296 first-low)
+  first-small = subst (λ (z : ℤ). nat_abs z ≤ 4294968296) (sym first-back) (nat_abs-le (pos a -ℤ pos 1000) first-low)
 
 -- the number d above a small one
 module _ (z : ℤ) {d : ℕ} (l : nat_abs z ≤ 4294968296) (h : d ≤ 65536) where

@@ -11,7 +11,7 @@ use Rattle.form.specs.Tree.{partial}
 use Rattle.carriers.specs.StaticRulesCarriers.{arrow_count}
 use Rattle.slot_carriers.specs.CellGroups.{Others}
 use Rattle.slot_carriers.specs.TypeNodes.{CountIs, FunctionIs, Functions}
-use Rattle.slot_carriers.proofs.Halving.{either}
+use Rattle.std.proofs.lemmas.Bool.{cases_lt}
 
 pub product-low : (a b : ℕ) → a < 65536 → b < 65536 → a * b ≤ 65535 * 65535
 product-low a b h k = mul-le-mul (at_most a h) (at_most b k)
@@ -71,7 +71,7 @@ others-next l m r s n x o e =
     within i h = omega arith
 
 split : (d n : ℕ) → d < n + 1 → (d < n) ⊎ (d ≡ n)
-split d n h = go (either d n)
+split d n h = go (cases_lt d n)
   where
     go : (d < n) ⊎ (n ≤ d) → (d < n) ⊎ (d ≡ n)
     go (inl k) = inl k

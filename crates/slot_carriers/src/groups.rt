@@ -1,5 +1,5 @@
 // A group of variables, whose cells stand one behind the other: how many bindings it has, and the values of one of them.
-ghost use Rattle.std.specs.Prelude.{◌≡◌, ◌<◌, pos};
+ghost use Rattle.std.specs.Prelude.{◌≡◌, ◌+◌, ◌*◌, ◌<◌, pos};
 ghost use Rattle.slot_carriers.specs.CellGroups.{Grouped, Counts, HoldsBinding, Others};
 
 use crate::{CELLS, SLOTS, count_of, value_at};
@@ -9,6 +9,20 @@ use crate::{CELLS, SLOTS, count_of, value_at};
 pub struct GroupSize {
     pub variables: usize,
     pub bindings: usize,
+}
+
+impl GroupSize {
+    // The size of two groups together: each binding of the one stands beside each of the other.
+    pub fn with(self, other: GroupSize) -> GroupSize
+        requires few_variables { self.variables + other.variables < 18446744073709551616 }
+        requires few_bindings { self.bindings * other.bindings < 18446744073709551616 }
+        ensures { result ≡ record { variables = self.variables + other.variables; bindings = self.bindings * other.bindings } }
+    {
+        GroupSize {
+            variables: self.variables + other.variables,
+            bindings: self.bindings * other.bindings,
+        }
+    }
 }
 
 // How many bindings the n variables from a slot on have.

@@ -34,7 +34,7 @@ use Rattle.states.specs.Promises.{ContextAsked}
 use Rattle.states.proofs.StateLaws.{asked-at, over-append, slotted-append}
 use Rattle.states.proofs.StepLaws.{concrete-operation}
 use Rattle.part_places.specs.ReadingsReadings.{ReadingOf}
-use Rattle.points.proofs.PointBindings.{Primes, no_primes, more_primes, state-primes}
+use Rattle.points.proofs.PointBindings.{Primes, no_primes, more_primes, primes-long, state-primes}
 use Rattle.plans.specs.declared.Part.{Part}
 use Rattle.part_places.specs.PartTestsPartsByNumber.{concrete_at, input_at, output_at}
 use Rattle.part_places.specs.Places.{PartAsked, PartSet}
@@ -44,10 +44,9 @@ use Rattle.state_facts.specs.Placings.{StatesSized, StatesBound, ParametersSized
 use Rattle.state_facts.specs.Reads.{concrete_count, ReadAsked}
 use Rattle.state_facts.specs.FalseConjuncts.{FirstFalse, none_false, false_here, false_later, Guard, guard_test, In, Throughout, ContextFirst, ContextIs}
 use Rattle.state_facts.specs.FalseConjuncts.{StepFrom, OperationRead, GuardAsked, FalseStep, FalseGuard}
-use Rattle.step_searches.proofs.ConcreteStates.{slotted-there}
-use Rattle.state_facts.proofs.PlacedGroups.{over-at, states-kept}
+use Rattle.step_searches.proofs.ConcreteStates.{slotted-there, over-at, placed_at}
+use Rattle.state_facts.proofs.PlacedGroups.{states-kept}
 use Rattle.state_facts.proofs.ShownLaws.{operation-states, operation-parameters}
-use Rattle.state_facts.proofs.SearchLaws.{placed_at}
 use Rattle.state_facts.proofs.ConjunctLaws.{held_in, context-as}
 
 -- ---- a row
@@ -87,10 +86,6 @@ holding-after : (b : Binding) (s : ℕ) (σ : Values) → Holding σ s b → Hol
 unfolding Holding after
 holding-after [] s σ h = tt
 holding-after (x ∷ b) s σ h = (h.0, holding-after b (suc s) σ h.1)
-
-primes-long : (vs us : List Variable) → Primes vs us → length us ≡ length vs
-primes-long _ _ no_primes = refl
-primes-long _ _ (more_primes {v} {vs} {us} r) = ap suc (primes-long vs us r)
 
 -- ---- bindings that differ only in slots that are not used
 
@@ -174,7 +169,7 @@ module _ (d : Dossier) (op : Operation) where
       pl = over-after cs ks l (state-primes d d.concrete) ol
 
       far : (x : ℕ) → 22 ≤ x → x < 22 + length ks → Among x (used_pred q (step_slots d op) 38) → ⊥
-      far x h m = let e = primes-long cs ks (state-primes d d.concrete) in not_in 22 8 x (used_pred q (step_slots d op) 38) (omega arith) h (omega arith)
+      far x h m = let e = primes-long (state-primes d d.concrete) in not_in 22 8 x (used_pred q (step_slots d op) 38) (omega arith) h (omega arith)
 
       near : (x : ℕ) → 19 ≤ x → x < 19 + length (outputs d op) → Among x (used_pred q (step_slots d op) 38) → ⊥
       near x h m = not_in 19 3 x (used_pred q (step_slots d op) 38) (omega arith) h (omega arith)

@@ -2,28 +2,17 @@
 -- Form 8: the laws below have a line for each group. `listed-kept` is what the lines share; left are the group's slots, the groups that are written behind it, and the field that bounds it (`abstracts_short`, `inputs_short`, ..).
 use mathlib.Core.Path.{sym, subst, ◌∙◌}
 use mathlib.Core.List.{List, []}
-use Prim.Native.Nat.{ℕ, ◌<◌, ◌≤◌}
+use Prim.Native.Nat.{ℕ, ◌≤◌}
 use native.Mathlib.Omega.{arith}
-use lib.ListN.{get_or}
 use lib.IntN.{ℤ, pos}
-use Rattle.static_rules.specs.Carriers.{Variable}
-use Rattle.static_rules.specs.Limits.{binding_count}
-use Rattle.meaning.specs.Bindings.{bindings, Over}
-use Rattle.meaning.proofs.Bindings.{listed-over}
-use Rattle.meaning.proofs.Places.{member-at}
-use Rattle.carriers.proofs.Bindings.{bindings-count, beyond-empty}
+use Rattle.meaning.specs.Bindings.{bindings}
+use Rattle.carriers.proofs.Bindings.{beyond-empty}
 use Rattle.slot_carriers.specs.CellGroups.{Grouped, Counts, Holding, HoldsBinding, Others}
 use Rattle.slot_carriers.proofs.GroupBindings.{listed-kept}
 use Rattle.plans.specs.declared.Part.{Part}
 use Rattle.points.proofs.PointBindings.{variable-counts}
 use Rattle.pages.specs.declared.Bindings.{Bindings}
 use Rattle.state_facts.specs.Placings.{GroupAsked, GroupBound, StatesSized, PairBound, OthersFrom, StatesBound, ParametersSized, ParametersBound}
-
--- ---- listed bindings
-
--- one that is listed is over the carriers
-pub over-at : (vs : List Variable) (k : ℕ) → k < binding_count vs → Over vs (get_or (bindings vs) k [])
-over-at vs k h = listed-over vs (get_or (bindings vs) k []) (member-at (bindings vs) k [] (subst (λ (n : ℕ). k < n) (sym (bindings-count vs)) h))
 
 -- ---- the slots
 

@@ -1,23 +1,18 @@
 -- Searches among the numbers of bindings: what the tests ask and answer where two bindings stand in the slots, and the steps of a search. Assumes nothing.
 use mathlib.Core.Path.{◌≡◌, refl, sym, subst, ◌∙◌}
 use mathlib.Core.Bool.{Bool}
-use mathlib.Core.List.{List, []}
+use mathlib.Core.List.{List}
 use Prim.Native.Nat.{ℕ, ◌<◌}
 use native.Mathlib.Omega.{arith}
 use Rattle.std.specs.Prelude.{Option, count_by}
 use Rattle.std.specs.List.{filter, range_with_len}
 use Rattle.std.proofs.lemmas.List.Sums.{length-filter}
-use lib.ListN.{get_or, length}
+use lib.ListN.{length}
 use Rattle.form.specs.Tree.{Dossier}
-use Rattle.static_rules.specs.Carriers.{Variable}
-use Rattle.static_rules.specs.Limits.{binding_count}
 use Rattle.static_rules.specs.Scope.{unprimed}
 use Rattle.meaning.specs.Bindings.{bindings}
 use Rattle.meaning.specs.Operations.{abstract_bindings, concrete_bindings, is_state}
-use Rattle.slot_carriers.specs.CellGroups.{Holding}
-use Rattle.table_places.specs.ResolvedTable.{slotted}
 use Rattle.evaluation.specs.EvaluationByNumber.{Values}
-use Rattle.states.specs.StateTests.{Placed}
 use Rattle.states.specs.Promises.{ContextAsked, ContextAnswers, AbstractIn, ConcreteIn, AbstractInitialAsked, AbstractInitialAnswers, RelatedAsked, RelatedAnswers}
 use Rattle.states.proofs.StateLaws.{abstract-context, asked-at, answer_at}
 use Rattle.part_places.specs.ReadingsReadings.{ReadingOf}
@@ -27,19 +22,14 @@ use Rattle.part_places.specs.Places.{PartAsked, PartSet}
 use Rattle.part_places.proofs.ReadingGroups.{reading-groups}
 use Rattle.state_facts.specs.Placings.{StatesSized, PairBound}
 use Rattle.step_searches.specs.StepPromises.{ReadAsked}
-use Rattle.step_searches.proofs.ConcreteStates.{slotted-there}
+use Rattle.step_searches.proofs.ConcreteStates.{placed_at}
 use Rattle.step_searches.proofs.PartSizes.{abstract-count, concrete-count}
 use Rattle.state_facts.specs.Reads.{abstract_count, concrete_count, abstract_initial_at, abstract_state_at, concrete_state_at, related_at}
 use Rattle.state_facts.specs.Reads.{Next, Counted, StatesRead, SearchAsked, TestIs, PairIs}
-use Rattle.step_searches.specs.StepPromises.{First, ConcreteStates, ConcreteAsked, StateAnswers}
-use Rattle.state_facts.proofs.PlacedGroups.{over-at}
+use Rattle.step_searches.specs.StepPromises.{First, ConcreteStates, StateAnswers}
 use Rattle.state_facts.proofs.ShownLaws.{opening-states}
 
 -- ---- a binding in its slots
-
-pub placed_at : (vs : List Variable) (k s : ℕ) (σ : Values) → k < binding_count vs → Holding σ s (get_or (bindings vs) k []) → length σ ≡ 64
-    → Placed vs (slotted s vs) (get_or (bindings vs) k []) σ
-placed_at vs k s σ l h e = record { over = over-at vs k l; slotted = slotted-there s vs (get_or (bindings vs) k []) σ (over-at vs k l) h; long = e }
 
 module _ {table rows firsts cells : List ℕ} {p : Part} {a c : ℕ} {σ : Values} (B : PairBound cells p a c σ) (e : length σ ≡ 64) where
   module _ (d : Dossier) (R : StatesRead table rows firsts cells p d) where
@@ -109,9 +99,6 @@ module _ {table rows firsts cells : List ℕ} {p : Part} where
     bindings = R.are.concretes.count;
     few = R.are.concretes.few;
   }
-
-  pub concretes-asked : SearchAsked table rows firsts cells p → ConcreteAsked table rows firsts cells p
-  concretes-asked A = record { dossier = A.dossier; states = concretes-read A.read }
 
   pub concrete-is : {d : Dossier} → StatesRead table rows firsts cells p d → {c : ℕ} {r : Bool} → StateAnswers table rows firsts cells p c r → r ≡ concrete_state_at d c
   concrete-is {d} R a = a.is d (concretes-read R)

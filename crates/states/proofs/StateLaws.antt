@@ -122,8 +122,11 @@ pub data Both (P Q : Bool → Type 0) : Bool → Type 0 where
   first_holds : {r : Bool} → P true → Q r → Both P Q r
   first_fails : P false → Both P Q false
 
-pub as-both : {P Q : Bool → Type 0} {x r : Bool} → x ≡ r → Both P Q r → Both P Q x
-as-both {P} {Q} e b = subst (Both P Q) (sym e) b
+-- three tests: the first, then the two others; or the first two, then the third
+pub both-left : {P Q R : Bool → Type 0} {r : Bool} → Both P (Both Q R) r → Both (Both P Q) R r
+both-left (first_holds p (first_holds q r)) = first_holds (first_holds p q) r
+both-left (first_holds p (first_fails q)) = first_fails (first_holds p q)
+both-left (first_fails p) = first_fails (first_fails p)
 
 -- the answer is whether both hold, where each answers a truth
 pub both-is : {P Q : Bool → Type 0} {r : Bool} (x y : Bool) → Both P Q r → ((b : Bool) → P b → b ≡ x) → ((b : Bool) → Q b → b ≡ y) → r ≡ (x && y)
@@ -171,12 +174,12 @@ module _ {table rows firsts : List ℕ} {σ : Values} where
   related-retrieve a =
       asked-at a.tests (retrieve-context a.dossier) (both-in a.dossier a.abstractly a.concretely σ a.abstract_in a.concrete_in)
 
-  pub related-is : {r : Bool} → Both (Both (ContextAnswers table rows firsts 0 σ) (ContextAnswers table rows firsts 1 σ)) (ContextAnswers table rows firsts 4 σ) r
+  pub related-is : {r : Bool} → Both (ContextAnswers table rows firsts 0 σ) (Both (ContextAnswers table rows firsts 1 σ) (ContextAnswers table rows firsts 4 σ)) r
       → RelatedAnswers table rows firsts σ r
   unfolding related is_state
   related-is w = record {
     means = λ d a c t h l.
-        both-is (is_state d d.abstract a && is_state d d.concrete c) (holds d.retrieve (environment d (a ++ c))) w
+        both-is (is_state d d.abstract a && is_state d d.concrete c) (holds d.retrieve (environment d (a ++ c))) (both-left w)
         (λ b k. both-is (is_state d d.abstract a) (is_state d d.concrete c) k (λ b m. answer_at t (abstract-context d) h m) (λ b m. answer_at t (concrete-context d) l m))
         (λ b k. answer_at t (retrieve-context d) (both-in d a c σ h l) k);
   }

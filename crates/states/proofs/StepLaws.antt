@@ -23,7 +23,7 @@ use Rattle.read_predicates.specs.PredicateRows.{TestsOf}
 use Rattle.states.specs.StateTests.{Placed, StepAt}
 use Rattle.states.specs.Promises.{ContextAsked, ContextAnswers}
 use Rattle.states.specs.Promises.{AbstractStepAsked, AbstractStepAnswers, ConcreteStepAsked, ConcreteStepAnswers}
-use Rattle.states.proofs.StateLaws.{ContextOf, abstract-context, concrete-context, asked-at, answer_at, over-append, slotted-append, Both, both-is}
+use Rattle.states.proofs.StateLaws.{ContextOf, abstract-context, concrete-context, asked-at, answer_at, over-append, slotted-append, Both, both-left, both-is}
 use Rattle.static_rules.proofs.FoundCarriers.{variables-one, variables-skip}
 
 -- ---- the contexts of the k-th operation
@@ -161,10 +161,10 @@ step-means : {table rows firsts : List ℕ} {d : Dossier} {s : State} {plain das
     → TestsOf table rows firsts d → ContextOf d n s.predicate (unprimed d s) (slotted plain (unprimed d s))
     → ContextOf d m p (operation_reach d s op) (slotted plain (unprimed d s) ++ slotted dashed (primed d s) ++ parameter_slots d op)
     → StepAt d s plain dashed op b i o b' σ later
-    → Both (Both (ContextAnswers table rows firsts n σ) (ContextAnswers table rows firsts n later)) (ContextAnswers table rows firsts m σ) r → r ≡ allows d s p b i o b'
+    → Both (ContextAnswers table rows firsts n σ) (Both (ContextAnswers table rows firsts n later) (ContextAnswers table rows firsts m σ)) r → r ≡ allows d s p b i o b'
 unfolding allows is_state
 step-means {d = d} {s = s} {p = p} {b = b} {i = i} {o = o} {b' = b'} t c k h w =
-    both-is (is_state d s b && is_state d s b') (holds p (environment d (b ++ after b' ++ i ++ o))) w
+    both-is (is_state d s b && is_state d s b') (holds p (environment d (b ++ after b' ++ i ++ o))) (both-left w)
     (λ x u. both-is (is_state d s b) (is_state d s b') u (λ y v. answer_at t c h.before v) (λ y v. answer_at t c h.behind v)) (λ x v. answer_at t k (step-placed h) v)
 
 module _ {table rows firsts : List ℕ} {k : ℕ} {σ later : Values} where
@@ -181,7 +181,7 @@ module _ {table rows firsts : List ℕ} {k : ℕ} {σ later : Values} where
   abstract-step-inside a = (abstract-step-whole a).at.inside
 
   pub abstract-step-is : {r : Bool}
-      → Both (Both (ContextAnswers table rows firsts 0 σ) (ContextAnswers table rows firsts 0 later)) (ContextAnswers table rows firsts (5 + 2 * k) σ) r
+      → Both (ContextAnswers table rows firsts 0 σ) (Both (ContextAnswers table rows firsts 0 later) (ContextAnswers table rows firsts (5 + 2 * k) σ)) r
       → AbstractStepAnswers table rows firsts k σ later r
   unfolding abstract_step
   abstract-step-is w = record { means = λ d op a i o a' t e h. step-means t (abstract-context d) (abstract-operation d k op e) h w }
@@ -199,7 +199,7 @@ module _ {table rows firsts : List ℕ} {k : ℕ} {σ later : Values} where
   concrete-step-inside a = (concrete-step-whole a).at.inside
 
   pub concrete-step-is : {r : Bool}
-      → Both (Both (ContextAnswers table rows firsts 1 σ) (ContextAnswers table rows firsts 1 later)) (ContextAnswers table rows firsts (5 + 2 * k + 1) σ) r
+      → Both (ContextAnswers table rows firsts 1 σ) (Both (ContextAnswers table rows firsts 1 later) (ContextAnswers table rows firsts (5 + 2 * k + 1) σ)) r
       → ConcreteStepAnswers table rows firsts k σ later r
   unfolding concrete_step
   concrete-step-is w = record { means = λ d op c i o c' t e h. step-means t (concrete-context d) (concrete-operation d k op e) h w }

@@ -1,5 +1,6 @@
 // The tests of states, initial states, retrieve and steps, at the values in the slots. The rows of a predicate's conjuncts are 8 numbers each, of which the second
 // is where the conjunct's table ends (search_groups/specs/Conjuncts); `firsts` says where the rows of each predicate begin. The slots are left as they were.
+// Of three tests the last two stand in parentheses: else two ways meet in front of the third, and each answer of the proof has both.
 #![tactic(auto)]
 
 ghost use Rattle.std.specs.Prelude.{◌≡◌};
@@ -27,7 +28,7 @@ fn all_hold(d: &Dossier<'_>, from: usize, to: usize, slots: &mut [i64; SLOTS]) -
     ensures kept { slots.new ≡ slots.old }
 {
     for i in (from..to).step_by(ROW) {
-        let end = d.rows[i + END] as usize;
+        let end = usize::from(d.rows[i + END]);
         if !truth(d.table, end, slots) {
             return false;
         }
@@ -41,8 +42,8 @@ pub fn context_holds(d: &Dossier<'_>, n: usize, slots: &mut [i64; SLOTS]) -> boo
     ensures answers { ContextAnswers d.now.table.now d.now.rows.now d.now.firsts.now n slots.old result }
     ensures kept { slots.new ≡ slots.old }
 {
-    let from = d.firsts[n] as usize;
-    let to = d.firsts[n + 1] as usize;
+    let from = usize::from(d.firsts[n]);
+    let to = usize::from(d.firsts[n + 1]);
     all_hold(d, from, to, slots)
 }
 
@@ -74,8 +75,7 @@ pub fn related(d: &Dossier<'_>, slots: &mut [i64; SLOTS]) -> bool
     ensures kept { slots.new ≡ slots.old }
 {
     context_holds(d, ABSTRACT_STATE, slots)
-        && context_holds(d, CONCRETE_STATE, slots)
-        && context_holds(d, RETRIEVE, slots)
+        && (context_holds(d, CONCRETE_STATE, slots) && context_holds(d, RETRIEVE, slots))
 }
 
 // Is it a step of the k-th operation's abstract side? `slots` has the state before, the state after under its primed slots, inputs and outputs; `later` has the
@@ -92,8 +92,8 @@ pub fn abstract_step(
     ensures later_kept { later.new ≡ later.old }
 {
     context_holds(d, ABSTRACT_STATE, slots)
-        && context_holds(d, ABSTRACT_STATE, later)
-        && context_holds(d, OPERATIONS + SIDES * k, slots)
+        && (context_holds(d, ABSTRACT_STATE, later)
+            && context_holds(d, OPERATIONS + SIDES * k, slots))
 }
 
 // The same of its concrete side.
@@ -110,6 +110,6 @@ pub fn concrete_step(
     ensures later_kept { later.new ≡ later.old }
 {
     context_holds(d, CONCRETE_STATE, slots)
-        && context_holds(d, CONCRETE_STATE, later)
-        && context_holds(d, OPERATIONS + SIDES * k + CONCRETE_SIDE, slots)
+        && (context_holds(d, CONCRETE_STATE, later)
+            && context_holds(d, OPERATIONS + SIDES * k + CONCRETE_SIDE, slots))
 }

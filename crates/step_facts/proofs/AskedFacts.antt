@@ -13,7 +13,7 @@ use Rattle.points.specs.Searches.{Sought}
 use Rattle.plans.specs.declared.Part.{Part}
 use Rattle.state_facts.specs.ReadingsReadings.{ReadingOf}
 use Rattle.state_facts.specs.PartTestsPartsByNumber.{abstract_at, output_at, abstractly, initial, initial_match}
-use Rattle.step_searches.specs.StepPromises.{StepSearches, StepsAsked, PrepareAsked, Prepared, First, AbstractStepFound}
+use Rattle.step_searches.specs.StepPromises.{StepSearches, StepsAsked, Prepared, First, AbstractStepFound}
 use Rattle.step_searches.specs.StepPromises.{OpeningAsked, OpenAsked, Opened, InitialStateFound, InitialMatchFound}
 use Rattle.step_searches.proofs.PartSizes.{na-is, nc-is, ni-is, nq-is, opening-nm-is, opening-nc-is}
 use Rattle.step_searches.proofs.FoundSteps as steps
@@ -33,9 +33,6 @@ pub unlisted : {operations j : ℕ} (d : Dossier) {op : Operation} → operation
 unlisted {j = j} d {op} h m e = let l = entry-below op d.operations j e in omega arith
 
 module _ {table rows firsts groups : List ℕ} {operations j : ℕ} where
-  pub prepare-asked : ReadAsked table rows firsts groups operations → j < operations → PrepareAsked table rows firsts groups j
-  prepare-asked q h = record { dossier = q.dossier; reading = q.reading; listed = omega (arith, q.many) }
-
   module _ {plan cells : List ℕ} {p : Part} where
     pub steps-asked : ReadAsked table rows firsts groups operations → j < operations → Prepared table rows firsts groups j plan cells p → StepsAsked table plan cells p
     steps-asked q h w =

@@ -3,7 +3,7 @@ use mathlib.Core.Path.{◌≡◌, refl, sym, ap, ap₂, subst, ◌∙◌}
 use mathlib.Core.Bool.{Bool, true, false}
 use mathlib.Core.List.{List}
 use Prim.Native.Nat.{ℕ, zero, suc, ◌+◌, ◌*◌, ◌<◌, ◌≤◌}
-use native.Mathlib.Nat.{eq-or-lt_of_le}
+use native.Mathlib.Nat.{zero-add, add_comm, eq-or-lt_of_le}
 use native.Mathlib.Omega.{arith}
 use mathlib.Core.Logic.{◌⊎◌, inl, inr}
 use mir.Val.{bool_byte}
@@ -24,17 +24,11 @@ use Rattle.sets.proofs.MaskBits.{byte_low}
 module _ (s : ℕ → Bool) (f : ℕ → ℕ) where
   weight-next : (n : ℕ) → s n ≡ true → weight s f (suc n) ≡ weight s f n + f n
   unfolding weight
-  weight-next n e = ap (λ (b : Bool). if_so b (f n) + weight s f n) e ∙ swap (f n) (weight s f n)
-    where
-      swap : (x y : ℕ) → x + y ≡ y + x
-      swap x y = omega arith
+  weight-next n e = ap (λ (b : Bool). if_so b (f n) + weight s f n) e ∙ add_comm (f n) (weight s f n)
 
   weight-skip : (n : ℕ) → s n ≡ false → weight s f (suc n) ≡ weight s f n
   unfolding weight
-  weight-skip n e = ap (λ (b : Bool). if_so b (f n) + weight s f n) e ∙ none (weight s f n)
-    where
-      none : (y : ℕ) → 0 + y ≡ y
-      none y = omega arith
+  weight-skip n e = ap (λ (b : Bool). if_so b (f n) + weight s f n) e ∙ zero-add (weight s f n)
 
   -- numbers that do not pass add nothing
   weight-over : (a n : ℕ) → a ≤ n → ((k : ℕ) → a ≤ k → k < n → s k ≡ false) → weight s f n ≡ weight s f a
@@ -109,11 +103,8 @@ tally-byte : (s : ℕ → Bool) (n i m : ℕ) (b : Bool) → n ≡ tally s i →
 unfolding weight
 tally-byte s n i m b e f g =
     let z : suc i ≡ m = omega arith in
-    swap n (bool_byte b) ∙ ap₂ (λ (u v : ℕ). u + v) (byte b ∙ ap (λ (t : Bool). if_so t 1) f) e ∙ ap (tally s) z
+    add_comm n (bool_byte b) ∙ ap₂ (λ (u v : ℕ). u + v) (byte b ∙ ap (λ (t : Bool). if_so t 1) f) e ∙ ap (tally s) z
   where
-    swap : (x y : ℕ) → x + y ≡ y + x
-    swap x y = omega arith
-
     byte : (b : Bool) → bool_byte b ≡ if_so b 1
     byte true = refl
     byte false = refl

@@ -13,7 +13,7 @@ use borrow.Author.Tests.{eq-eqb, ne_eqb}
 use Rattle.form.specs.Tree.{Operation, Dossier}
 use Rattle.sets.specs.Sets.{has}
 use Rattle.points.specs.Searches.{Sought}
-use Rattle.plans.proofs.Segments.{either}
+use Rattle.std.proofs.lemmas.Bool.{cases_lt}
 use Rattle.plans.specs.declared.Part.{Part}
 use Rattle.state_facts.specs.PartTestsPartsByNumber.{abstract_state, related_to, ready_at, stepping}
 use Rattle.step_searches.specs.StepPromises.{StepSearches, StepsAsked, ForSteps, Prepared, First, AbstractStateFound, RelatedStateFound}
@@ -21,14 +21,14 @@ use Rattle.step_facts.specs.declared.differences.Place.{Place}
 use Rattle.step_facts.specs.FactPromises.{input_count, BitsAre, MasksAre, more, more_by, FirstMore, differs, differs_related, differs_at, FirstRelated, FirstPlace, PlaceHere, NowhereFrom, PlaceFrom, PlaceAmong, Within, PlaceIs}
 use Rattle.step_searches.proofs.PartSizes.{na-is, nc-is, ni-is}
 use Rattle.step_facts.proofs.AskedFacts.{unlisted}
-use Rattle.lexical.proofs.BooleanTests.{and-right-false, and-left-false}
+use Rattle.lexical.proofs.BooleanTests.{and_both, and-right-false, and-left-false}
 
 -- ---- from one number that passes to the next
 
 -- what holds before c, at c and wherever the test fails holds before the next number that passes
 pub advance : (G : ℕ → Type 0) (f : ℕ → Bool) (c next n : ℕ) → ((k : ℕ) → k < c → G k) → G c → ((k : ℕ) → f k ≡ false → G k) → Sought f (c + 1) n next
     → (k : ℕ) → k < next → G k
-advance G f c next n before at skip s k l = ⊎_elim (λ h. before k h) (λ h. ⊎_elim (λ e. subst G e at) (λ g. skip k (s.past k (omega arith) l)) (eq-or-lt_of_le h)) (either k c)
+advance G f c next n before at skip s k l = ⊎_elim (λ h. before k h) (λ h. ⊎_elim (λ e. subst G e at) (λ g. skip k (s.past k (omega arith) l)) (eq-or-lt_of_le h)) (cases_lt k c)
 
 -- ---- the first bit that one mask has and the other has not
 
@@ -48,12 +48,8 @@ no_more s m i h = go (s / 2 ^ i % 2) (m / 2 ^ i % 2) h (mod-lt (m / 2 ^ i) (omeg
         below : (y : ℕ) → y < 2 → (y ≡ 1) ⊎ (y < 1)
         below y l = eq-or-lt_of_le (omega arith)
 
-        both : (b : Bool) → (b && false) ≡ false
-        both true = refl
-        both false = refl
-
         or : (y ≡ 1) ⊎ (y < 1) → (eqb x 1 && not (eqb y 1)) ≡ false
-        or (inl e) = ap (λ (b : Bool). eqb x 1 && not b) (eq-eqb y 1 e) ∙ both (eqb x 1)
+        or (inl e) = ap (λ (b : Bool). eqb x 1 && not b) (eq-eqb y 1 e) ∙ and-right-false (eqb x 1) false refl
         or (inr k) = ap (λ (b : Bool). b && not (eqb y 1)) (ne_eqb x 1 (λ e. omega arith))
 
 module _ {narrowed : Bool} {s m n : ℕ} {r : Option ℕ} where
@@ -64,9 +60,6 @@ module _ {narrowed : Bool} {s m n : ℕ} {r : Option ℕ} where
   widened-bit e w = record { first = subst (λ (b : Bool). First (more_by b s m) 0 n r) (sym e) w }
 
 -- ---- the concrete states related to an abstract one
-
-true_and : (b c : Bool) → b ≡ true → c ≡ true → (b && c) ≡ true
-true_and b c e f = ap₂ (λ (x y : Bool). x && y) e f
 
 -- the bits differ where the sides do
 by-sides : (d : Dossier) (op : Operation) (narrowed : Bool) (a c i s m : ℕ) → has s i ≡ ready_at d op a i → has m i ≡ stepping d op c i
@@ -107,7 +100,7 @@ module _ {table plan cells : List ℕ} {p : Part} {narrowed : Bool} {a : ℕ} wh
     place_here {i} q = record {
       is = record {
         low = (refl, l, (subst (First (more_by narrowed s m) 0 p.inputs.bindings) q u.first).1);
-        here = λ d op x. true_and (related_to d a c) (differs d op narrowed a c i) (w.here d op x l) (at d op x).2;
+        here = λ d op x. and_both (w.here d op x l) (at d op x).2;
         first = λ d op x. record {
           related = λ k j g t. w.none d op x k j g t;
           inputs = λ j g. and-right-false (related_to d a c) (differs d op narrowed a c j) ((at d op x).3 j (omega arith) g);
@@ -158,7 +151,7 @@ module _ {table plan cells : List ℕ} {p : Part} {narrowed : Bool} where
           is = record {
             low = (omega (arith, z.low.0), z.low.1, z.low.2);
             here = λ d op x. (let h : differs_at d op narrowed a t.c t.i ≡ true =
-                true_and (abstract_state d a) (differs_related d op narrowed a t.c t.i) (w.here d op x l) (z.here d op x) in
+                and_both (w.here d op x l) (z.here d op x) in
                 subst (λ (k : ℕ). differs_at d op narrowed k t.c t.i ≡ true) (sym z.low.0) h);
             first = λ d op x. subst (λ (k : ℕ). FirstPlace d op narrowed p.concretes.bindings p.inputs.bindings k t.c t.i) (sym z.low.0) (before d op x (z.first d op x));
           };

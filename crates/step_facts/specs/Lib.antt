@@ -1,2 +1,2 @@
 pub mod FactPromises
-pub mod Sides
+pub mod Machines

@@ -3,9 +3,11 @@
 // `let _ = &s.search;` stands where a function names no field of its search: with it the proof learns the invariant of `StepSearch`.
 // Form 2: four functions make operation j's part ready and search it: the part owns the arrays that the search refers to, so that a function that makes both cannot hand the search out;
 // and a function that is handed a closure over the search would ask that it can be called with every search of the operation, in place of three statements.
-// Form 3: in the loops by `while` the next place is what a search answers, which is lent the memory that the body is lent too: an iterator would have to own it.
+// Form 3: in the loops by `while` the next place is what a search answers that writes the memory: in the closure of an iterator nothing is told of what it changes, as seen at
+// `runs::step_from`, and `remembers` says what the memory is behind the loop.
 // Form 5: the memory goes with the search through each function: in one struct, lent to be written, each would have to promise that the search is the same
-// behind it, and would hand the two on one by one, since the functions of `step_searches` take them so.
+// behind it, and would hand the two on one by one, since the functions of `step_searches` take them so. That a number is one of the abstract bindings is asked of
+// four functions: as in `step_searches`.
 #![tactic(auto)]
 
 ghost use Rattle.step_facts.specs.FactPromises.{SpansAre, AbstractStepIs};

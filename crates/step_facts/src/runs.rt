@@ -3,7 +3,7 @@ ghost use Rattle.std.specs.Prelude.{◌<◌};
 ghost use Rattle.memo.specs.MemoPromises.{Memo};
 ghost use Rattle.step_facts.specs.FactPromises.{BeginIs, PairLow, StepFound, StepIs};
 
-use crate::bits::{Side, able};
+use crate::bits::{Machine, able};
 use state_facts::Pair;
 use step_searches::{
     ReadDossier, StepSearch, Stepped, next_concrete_step, next_initial_match, next_initial_state,
@@ -57,7 +57,7 @@ fn step_at(
     ensures remembers { Memo s.now.table.now memo.new }
 {
     let p = s.search.part;
-    if !able(s, Side::Abstract, x.a, i, memo) {
+    if !able(s, Machine::Abstract, x.a, i, memo) {
         return None;
     }
     let step = next_concrete_step(s, x.c, i, 0, memo)?;

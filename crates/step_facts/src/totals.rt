@@ -4,7 +4,7 @@ ghost use Rattle.memo.specs.MemoPromises.{Memo};
 ghost use Rattle.step_facts.specs.FactPromises.{Summed, one, state_test, related_test, ready_test, adds, AddedIs, TotalIs};
 ghost use Rattle.step_facts.specs.FactPromises.{StatesCounted, PairsCounted, PromisesCounted};
 
-use crate::bits::{Side, able};
+use crate::bits::{Machine, able};
 use step_searches::{ReadDossier, StepSearch, next_abstract_state, next_related_state, prepare};
 
 // The operation that is asked for what all of them have in common.
@@ -49,7 +49,7 @@ fn count_ready(s: &StepSearch<'_>, a: usize, memo: &mut [u64; memo::NUMBERS]) ->
     let p = s.search.part;
     let mut n = 0;
     for i in 0..p.inputs.bindings {
-        n += usize::from(able(s, Side::Abstract, a, i, memo));
+        n += usize::from(able(s, Machine::Abstract, a, i, memo));
     }
     n
 }

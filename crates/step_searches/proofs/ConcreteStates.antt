@@ -8,6 +8,7 @@ use lib.ListN.{get_or, length}
 use lib.IntN.{ℤ, pos}
 use Rattle.form.specs.Tree.{Dossier}
 use Rattle.static_rules.specs.Carriers.{Variable}
+use Rattle.static_rules.specs.Limits.{binding_count}
 use Rattle.static_rules.specs.Scope.{unprimed}
 use Rattle.meaning.specs.Meaning.{Binding}
 use Rattle.meaning.specs.Bindings.{bindings, Over}
@@ -37,6 +38,18 @@ slotted-there s [] (x ∷ b) σ o h = absurd o
 slotted-there s (v ∷ vs) [] σ o h = absurd o
 slotted-there s (v ∷ vs) (x ∷ b) σ o h = (sym o.0, h.0, slotted-there (suc s) vs b σ o.2 h.1)
 
+-- a listed binding is over the carriers
+pub at-over : (vs : List Variable) (k : ℕ) → k < length (bindings vs) → Over vs (get_or (bindings vs) k [])
+at-over vs k h = listed-over vs (get_or (bindings vs) k []) (member-at (bindings vs) k [] h)
+
+pub over-at : (vs : List Variable) (k : ℕ) → k < binding_count vs → Over vs (get_or (bindings vs) k [])
+over-at vs k h = at-over vs k (subst (λ (n : ℕ). k < n) (sym (bindings-count vs)) h)
+
+-- in its slots
+pub placed_at : (vs : List Variable) (k s : ℕ) (σ : List ℤ) → k < binding_count vs → Holding σ s (get_or (bindings vs) k []) → length σ ≡ 64
+    → Placed vs (slotted s vs) (get_or (bindings vs) k []) σ
+placed_at vs k s σ l h e = record { over = over-at vs k l; slotted = slotted-there s vs (get_or (bindings vs) k []) σ (over-at vs k l) h; long = e }
+
 module _ {table rows firsts cells : List ℕ} {p : Part} {d : Dossier} (x : ConcreteStates table rows firsts cells p d) where
   abbrev cs : List Variable
   cs = unprimed d d.concrete
@@ -50,14 +63,7 @@ module _ {table rows firsts cells : List ℕ} {p : Part} {d : Dossier} (x : Conc
   module _ {c : ℕ} (l : c < p.concretes.bindings) {old σ : List ℤ} (long : length old ≡ 64) (h : HoldsBinding cells 8 p.concretes.variables c σ) (o : Others (pos 0) old 8 p.concretes.variables σ) where
     in-slots : Placed cs (concrete_slots d) (concrete_at d c) σ
     unfolding concrete_bindings
-    in-slots =
-        let low : c < length (bindings cs) = subst (λ (n : ℕ). c < n) (x.bindings ∙ sym (bindings-count cs)) l in
-        let over : Over cs (get_or (bindings cs) c []) = listed-over cs (get_or (bindings cs) c []) (member-at (bindings cs) c [] low) in
-        record {
-          over = over;
-          slotted = slotted-there 8 cs (get_or (bindings cs) c []) σ over (h cs x.celled (sym x.count));
-          long = o.same_length ∙ long;
-        }
+    in-slots = placed_at cs c 8 σ (subst (λ (n : ℕ). c < n) x.bindings l) (h cs x.celled (sym x.count)) (o.same_length ∙ long)
 
     state-asked : ContextAsked table rows firsts 1 σ
     state-asked = asked-at x.tests (concrete-context d) in-slots

@@ -17,6 +17,7 @@ use Rattle.static_rules.specs.Carriers.{Variable}
 use Rattle.static_rules.specs.Limits.{binding_count}
 use Rattle.carriers.proofs.Bindings.{bindings-some}
 use Rattle.slot_carriers.specs.CellGroups.{CellsOf}
+use Rattle.slot_carriers.specs.declared.groups.GroupSize.{GroupSize}
 use Rattle.points.specs.Points.{Point, span, number_of, placed, Shows}
 use Rattle.points.specs.Searches.{under, Sought, SearchOf}
 use Rattle.points.proofs.PointNumbers.{number-apart, number-placed, beside_placed, placed-append, span-append, sought-same, distinct-upward}
@@ -24,6 +25,7 @@ use Rattle.points.proofs.PointBindings.{span-count, group-counts}
 use Rattle.points.proofs.SearchLevels.{search-finds}
 use Rattle.seek.specs.SeekPromises.{SeekAsked, SeekAnswers}
 use Rattle.parts.proofs.PartSearchesSlotGroups.{Filled, filled}
+use Rattle.part_setup.specs.PartTestsPartGroups.{size_of}
 use Rattle.parts.proofs.PartSearchesNestParts.{outside-run, run-apart}
 use Rattle.step_searches.specs.StepPromises.{Bindable}
 
@@ -35,6 +37,9 @@ origin = λ (s : ℕ). 0
 
 few-bindings : (n : ℕ) → n ≤ 2 ^ 18 → n ≤ 2 ^ 24
 few-bindings n h = omega arith
+
+low-enough : (n : ℕ) → n ≤ 4096 → n ≤ 2 ^ 18
+low-enough n h = omega arith
 
 module _ {table plan cells : List ℕ} {u : ℕ} {ss : List ℕ} {P : Point → Bool} (S : SearchOf table plan cells u ss P) {δ : Point} {before : List (List ℤ)} (σ : Shows cells δ before)
     {m n from : ℕ} (l : length ss ≡ m) (e : span cells ss ≡ n) where
@@ -111,6 +116,17 @@ module _ {cells : List ℕ} {base : ℕ} {vs : List Variable} (c : Group cells b
   pub has : (δ : Point) (k : ℕ) → k < binding_count vs → number_of cells run (placed cells run δ k) ≡ k
   has δ k h =
       number-placed cells run δ k (distinct-upward base (length vs)) (group-counts cells base vs c.each) (subst (λ (n : ℕ). k < n) (sym group-span) h)
+
+  -- by the size that a part has of it: the group at one of its bindings, and a search over it
+  module _ {g : GroupSize} (e : g ≡ size_of vs) where
+    pub put : base + length vs ≤ 38 → {k : ℕ} → k < g.bindings → Bindable cells base g.variables g.bindings k
+    put h {k} = subst (λ (z : GroupSize). k < z.bindings → Bindable cells base z.variables z.bindings k) (sym e) (bindable h)
+
+    pub ask : {table plan : List ℕ} {u : ℕ} {P : Point → Bool} → SearchOf table plan cells u run P → binding_count vs ≤ 4096 → {δ : Point} {before : List (List ℤ)}
+        → Shows cells δ before → {from : ℕ} → from ≤ g.bindings → SeekAsked table plan cells u 0 g.variables g.bindings from before
+    ask {table} {plan} {u} S f {before = before} σ {from} =
+        subst (λ (z : GroupSize). from ≤ z.bindings → SeekAsked table plan cells u 0 z.variables z.bindings from before) (sym e)
+        (asks S σ (upward-long base (length vs)) group-span (low-enough (binding_count vs) f))
 
 -- and keeps it where a group that has no slot in common with it is put to another
 kept-apart : (cells : List ℕ) (a n b m : ℕ) (δ : Point) (k : ℕ) → ((s : ℕ) → b ≤ s → s < b + m → a ≤ s → s < a + n → ⊥)

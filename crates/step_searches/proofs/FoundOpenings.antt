@@ -18,8 +18,8 @@ use Rattle.plans.specs.declared.Part.{Part}
 use Rattle.part_setup.specs.PartTestsPartGroups.{opening_part}
 use Rattle.part_setup.specs.PartTestsPartsByNumber.{abstract_at, initial, initial_match}
 use Rattle.step_searches.specs.StepPromises.{Bindable, OpeningSearches, abstract_group, concrete_group}
-use Rattle.step_searches.proofs.FoundNumbers.{origin, asks, finds, Group, group-span, bindable, has, kept_above}
-use Rattle.step_searches.proofs.FoundSteps.{low-enough, from_concrete}
+use Rattle.step_searches.proofs.FoundNumbers.{origin, finds, Group, group-span, put, ask, has, kept_above}
+use Rattle.step_searches.proofs.FoundSteps.{from_concrete}
 use Rattle.meaning.proofs.UpwardNumbers.{upward-long}
 
 module _ {table plan cells : List ℕ} {p : Part} {d : Dossier} (x : OpeningSearches table plan cells p d) where
@@ -48,19 +48,14 @@ module _ {table plan cells : List ℕ} {p : Part} {d : Dossier} (x : OpeningSear
 
   module _ {k : ℕ} where
     pub put-concrete : k < p.concretes.bindings → Bindable cells 8 p.concretes.variables p.concretes.bindings k
-    put-concrete =
-        by_part (λ (z : Part). k < z.concretes.bindings → Bindable cells 8 z.concretes.variables z.concretes.bindings k) (λ l. bindable concretes (omega (arith, x.few.concretes)) l)
+    put-concrete = put concretes (ap (λ (z : Part). z.concretes) x.part_is) (omega (arith, x.few.concretes))
 
   module _ {δ : Point} {before : List (List ℤ)} (σ : Shows cells δ before) {k : ℕ} where
     pub ask-initials : k ≤ p.concretes.bindings → SeekAsked table plan cells 1 0 p.concretes.variables p.concretes.bindings k before
-    ask-initials =
-        by_part (λ (z : Part). k ≤ z.concretes.bindings → SeekAsked table plan cells 1 0 z.concretes.variables z.concretes.bindings k before)
-        (asks x.initials σ (upward-long 8 (length cs)) (group-span concretes) (low-enough (binding_count cs) x.few.concrete_bindings_lem))
+    ask-initials = ask concretes (ap (λ (z : Part). z.concretes) x.part_is) x.initials x.few.concrete_bindings_lem σ
 
     pub ask-met : k ≤ p.meeting.bindings → SeekAsked table plan cells 4 0 p.meeting.variables p.meeting.bindings k before
-    ask-met =
-        by_part (λ (z : Part). k ≤ z.meeting.bindings → SeekAsked table plan cells 4 0 z.meeting.variables z.meeting.bindings k before)
-        (asks x.met σ (upward-long 0 (length us)) (group-span abstracts) (low-enough (binding_count us) x.few.abstract_bindings_lem))
+    ask-met = ask abstracts (ap (λ (z : Part). z.meeting) x.part_is) x.met x.few.abstract_bindings_lem σ
 
   matched : (c s : ℕ) → c < binding_count cs → s < binding_count us
       → initial_match d (number_of cells (concrete_group d) (placed cells (abstract_group d) (from_concrete cells here c) s))

@@ -1,9 +1,9 @@
 -- What the searches of an operation's correctness part are asked, and what they find by numbers. Assumes nothing.
--- Form 8: a law for each group and each search; what they share is `bindable`, `asks` and `finds` of FoundNumbers, and left is which sizes of the part are meant.
+-- Form 8: a law for each group and each search; what they share is `put`, `ask` and `finds` of FoundNumbers, and left is which sizes of the part are meant.
 use mathlib.Core.Path.{◌≡◌, refl, sym, ap, ap₂, subst, ◌∙◌}
 use mathlib.Core.Bool.{Bool}
 use mathlib.Core.List.{List, ◌++◌}
-use Prim.Native.Nat.{ℕ, ◌+◌, ◌*◌, ◌/◌, ◌%◌, ◌<◌, ◌≤◌, ◌^◌}
+use Prim.Native.Nat.{ℕ, ◌+◌, ◌*◌, ◌/◌, ◌%◌, ◌<◌, ◌≤◌}
 use native.Mathlib.Omega.{arith}
 use Rattle.std.specs.Prelude.{Option, unwrap_or, IfSome}
 use lib.ListN.{length}
@@ -23,11 +23,8 @@ use Rattle.part_setup.specs.PartTestsPartGroups.{correctness_part}
 use Rattle.part_setup.specs.PartTestsPartsByNumber.{abstract_at, concrete_at, output_at, abstract_state, related_to, abstractly, concretely, match}
 use Rattle.step_searches.specs.StepPromises.{Bindable, StepSearches}
 use Rattle.step_searches.specs.StepPromises.{abstract_group, concrete_after_group, abstract_after_group, input_group, output_group}
-use Rattle.step_searches.proofs.FoundNumbers.{origin, asks, finds, Group, group-span, bindable, has, kept-below}
+use Rattle.step_searches.proofs.FoundNumbers.{origin, asks, finds, Group, group-span, put, ask, has, kept-below}
 use Rattle.step_searches.proofs.FoundNumbers.{both-few, both_long, both_span, both-placed, first_low, second_low}
-
-pub low-enough : (n : ℕ) → n ≤ 4096 → n ≤ 2 ^ 18
-low-enough n h = omega arith
 
 -- the points at which groups are at given numbers, all other variables at their first values
 module _ (cells : List ℕ) (p : Part) where
@@ -82,9 +79,9 @@ module _ {table plan cells : List ℕ} {p : Part} {d : Dossier} {op : Operation}
   abstracts-after : Group cells 30 us
   abstracts-after = record { each = x.celled.states.abstracts_primed }
 
-  pub fits : (p.outputs.bindings * p.concretes.bindings ≤ 262144) × (p.outputs.variables + p.primes.variables ≤ 11)
+  pub fits : (p.outputs.bindings * p.concretes.bindings ≤ 262144) × (p.outputs.variables + p.concretes.variables ≤ 11)
   fits =
-      by_part (λ (z : Part). (z.outputs.bindings * z.concretes.bindings ≤ 262144) × (z.outputs.variables + z.primes.variables ≤ 11))
+      by_part (λ (z : Part). (z.outputs.bindings * z.concretes.bindings ≤ 262144) × (z.outputs.variables + z.concretes.variables ≤ 11))
       (both-few (binding_count os) (binding_count cs) x.output_bindings_lem x.few.concrete_bindings_lem, omega (arith, x.outputs_few, x.few.concretes))
 
   -- how many bindings each group has
@@ -95,46 +92,40 @@ module _ {table plan cells : List ℕ} {p : Part} {d : Dossier} {op : Operation}
       ((0 < z.abstracts.bindings) × (z.abstracts.bindings ≤ 4096)) × ((0 < z.concretes.bindings) × (z.concretes.bindings ≤ 4096)) × ((0 < z.inputs.bindings) × (z.inputs.bindings ≤ 64)) × ((0 < z.outputs.bindings) × (z.outputs.bindings ≤ 64)))
       ((bindings-some us, x.few.abstract_bindings_lem), (bindings-some cs, x.few.concrete_bindings_lem), (bindings-some is, x.input_bindings), (bindings-some os, x.output_bindings_lem))
 
+  -- how many steps and after states a search has
+  pub steps-end : p.readying.bindings ≡ p.outputs.bindings * p.abstracts.bindings
+  steps-end = by_part (λ (z : Part). z.readying.bindings ≡ z.outputs.bindings * z.abstracts.bindings) refl
+
+  matches-end : p.meeting.bindings ≡ p.abstracts.bindings
+  matches-end = by_part (λ (z : Part). z.meeting.bindings ≡ z.abstracts.bindings) refl
+
   -- ---- groups at given numbers
 
   module _ {k : ℕ} where
     pub put-abstract : k < p.abstracts.bindings → Bindable cells 0 p.abstracts.variables p.abstracts.bindings k
-    put-abstract =
-        by_part (λ (z : Part). k < z.abstracts.bindings → Bindable cells 0 z.abstracts.variables z.abstracts.bindings k)
-        (λ l. bindable abstracts (omega (arith, x.few.abstracts)) l)
+    put-abstract = put abstracts (ap (λ (z : Part). z.abstracts) x.part_is) (omega (arith, x.few.abstracts))
 
     pub put-concrete : k < p.concretes.bindings → Bindable cells 8 p.concretes.variables p.concretes.bindings k
-    put-concrete =
-        by_part (λ (z : Part). k < z.concretes.bindings → Bindable cells 8 z.concretes.variables z.concretes.bindings k)
-        (λ l. bindable concretes (omega (arith, x.few.concretes)) l)
+    put-concrete = put concretes (ap (λ (z : Part). z.concretes) x.part_is) (omega (arith, x.few.concretes))
 
     pub put-inputs : k < p.inputs.bindings → Bindable cells 16 p.inputs.variables p.inputs.bindings k
-    put-inputs =
-        by_part (λ (z : Part). k < z.inputs.bindings → Bindable cells 16 z.inputs.variables z.inputs.bindings k)
-        (λ l. bindable inward (omega (arith, x.inputs_few)) l)
+    put-inputs = put inward (ap (λ (z : Part). z.inputs) x.part_is) (omega (arith, x.inputs_few))
 
     pub put-outputs : k < p.outputs.bindings → Bindable cells 19 p.outputs.variables p.outputs.bindings k
-    put-outputs =
-        by_part (λ (z : Part). k < z.outputs.bindings → Bindable cells 19 z.outputs.variables z.outputs.bindings k)
-        (λ l. bindable outward (omega (arith, x.outputs_few)) l)
+    put-outputs = put outward (ap (λ (z : Part). z.outputs) x.part_is) (omega (arith, x.outputs_few))
 
     pub put-concrete-after : k < p.concretes.bindings → Bindable cells 22 p.primes.variables p.primes.bindings k
-    put-concrete-after =
-        by_part (λ (z : Part). k < z.concretes.bindings → Bindable cells 22 z.primes.variables z.primes.bindings k)
-        (λ l. bindable concretes-after (omega (arith, x.few.concretes)) l)
+    put-concrete-after l =
+        put concretes-after (ap (λ (z : Part). z.primes) x.part_is) (omega (arith, x.few.concretes)) (subst (λ (n : ℕ). k < n) (by_part (λ (z : Part). z.concretes.bindings ≡ z.primes.bindings) refl) l)
 
   -- ---- what the searches are asked
 
   module _ {δ : Point} {before : List (List ℤ)} (σ : Shows cells δ before) {k : ℕ} where
     pub ask-states : k ≤ p.abstracts.bindings → SeekAsked table plan cells 0 0 p.abstracts.variables p.abstracts.bindings k before
-    ask-states =
-        by_part (λ (z : Part). k ≤ z.abstracts.bindings → SeekAsked table plan cells 0 0 z.abstracts.variables z.abstracts.bindings k before)
-        (asks x.states σ (upward-long 0 (length us)) (group-span abstracts) (low-enough (binding_count us) x.few.abstract_bindings_lem))
+    ask-states = ask abstracts (ap (λ (z : Part). z.abstracts) x.part_is) x.states x.few.abstract_bindings_lem σ
 
     pub ask-related : k ≤ p.concretes.bindings → SeekAsked table plan cells 1 0 p.concretes.variables p.concretes.bindings k before
-    ask-related =
-        by_part (λ (z : Part). k ≤ z.concretes.bindings → SeekAsked table plan cells 1 0 z.concretes.variables z.concretes.bindings k before)
-        (asks x.related σ (upward-long 8 (length cs)) (group-span concretes) (low-enough (binding_count cs) x.few.concrete_bindings_lem))
+    ask-related = ask concretes (ap (λ (z : Part). z.concretes) x.part_is) x.related x.few.concrete_bindings_lem σ
 
     pub ask-ready : k ≤ p.outputs.bindings * p.abstracts.bindings → SeekAsked table plan cells 2 0 p.readying.variables p.readying.bindings k before
     ask-ready =
@@ -142,16 +133,14 @@ module _ {table plan cells : List ℕ} {p : Part} {d : Dossier} {op : Operation}
         (asks x.ready σ (both_long outward abstracts-after) (both_span outward abstracts-after)
         (both-few (binding_count os) (binding_count us) x.output_bindings_lem x.few.abstract_bindings_lem))
 
-    pub ask-steps : k ≤ p.outputs.bindings * p.concretes.bindings → SeekAsked table plan cells 3 0 (p.outputs.variables + p.primes.variables) (p.outputs.bindings * p.concretes.bindings) k before
+    pub ask-steps : k ≤ p.outputs.bindings * p.concretes.bindings → SeekAsked table plan cells 3 0 (p.outputs.variables + p.concretes.variables) (p.outputs.bindings * p.concretes.bindings) k before
     ask-steps =
-        by_part (λ (z : Part). k ≤ z.outputs.bindings * z.concretes.bindings → SeekAsked table plan cells 3 0 (z.outputs.variables + z.primes.variables) (z.outputs.bindings * z.concretes.bindings) k before)
+        by_part (λ (z : Part). k ≤ z.outputs.bindings * z.concretes.bindings → SeekAsked table plan cells 3 0 (z.outputs.variables + z.concretes.variables) (z.outputs.bindings * z.concretes.bindings) k before)
         (asks x.steps σ (both_long outward concretes-after) (both_span outward concretes-after)
         (both-few (binding_count os) (binding_count cs) x.output_bindings_lem x.few.concrete_bindings_lem))
 
     pub ask-met : k ≤ p.abstracts.bindings → SeekAsked table plan cells 4 0 p.meeting.variables p.meeting.bindings k before
-    ask-met =
-        by_part (λ (z : Part). k ≤ z.abstracts.bindings → SeekAsked table plan cells 4 0 z.meeting.variables z.meeting.bindings k before)
-        (asks x.met σ (upward-long 30 (length us)) (group-span abstracts-after) (low-enough (binding_count us) x.few.abstract_bindings_lem))
+    ask-met l = ask abstracts-after (ap (λ (z : Part). z.meeting) x.part_is) x.met x.few.abstract_bindings_lem σ (subst (λ (n : ℕ). k ≤ n) (sym matches-end) l)
 
   -- ---- what is tested at the points of numbers
 
@@ -248,11 +237,11 @@ module _ {table plan cells : List ℕ} {p : Part} {d : Dossier} {op : Operation}
         (λ (k : ℕ). abstractly d op a i (output_at d op (k / binding_count us)) (abstract_at d (k % binding_count us))) (λ k h. step-tested 0 30 us (λ (s i o t : ℕ). abstractly d op s i (output_at d op o) (abstract_at d t)) abstracts abstracts-after (omega (arith, x.few.abstracts)) (omega arith) a i k la li h))
 
     pub steps-found : {c i : ℕ} → c < p.concretes.bindings → i < p.inputs.bindings → Shows cells (with_inputs cells p (from_concrete cells p c) i) before
-        → SeekAnswers table plan cells 3 0 (p.outputs.variables + p.primes.variables) (p.outputs.bindings * p.concretes.bindings) from before after r
+        → SeekAnswers table plan cells 3 0 (p.outputs.variables + p.concretes.variables) (p.outputs.bindings * p.concretes.bindings) from before after r
         → Sought (λ (k : ℕ). concretely d op c i (output_at d op (k / p.concretes.bindings)) (concrete_at d (k % p.concretes.bindings))) from (p.outputs.bindings * p.concretes.bindings) r
     steps-found {c} {i} =
         by_part (λ (z : Part). c < z.concretes.bindings → i < z.inputs.bindings → Shows cells (with_inputs cells z (from_concrete cells z c) i) before
-        → SeekAnswers table plan cells 3 0 (z.outputs.variables + z.primes.variables) (z.outputs.bindings * z.concretes.bindings) from before after r
+        → SeekAnswers table plan cells 3 0 (z.outputs.variables + z.concretes.variables) (z.outputs.bindings * z.concretes.bindings) from before after r
         → Sought (λ (k : ℕ). concretely d op c i (output_at d op (k / z.concretes.bindings)) (concrete_at d (k % z.concretes.bindings))) from (z.outputs.bindings * z.concretes.bindings) r)
         (λ lc li σ. finds x.steps σ (both_long outward concretes-after)
         (both_span outward concretes-after)
@@ -266,13 +255,7 @@ module _ {table plan cells : List ℕ} {p : Part} {d : Dossier} {op : Operation}
         (λ la li lo lk σ. finds x.met σ (upward-long 30 (length us)) (group-span abstracts-after) (λ (s : ℕ). match d op a i o k (abstract_at d s))
         (λ s h. matched a i o k s la li lo lk h))
 
-  -- ---- how many steps and after states a search has
-
-  pub steps-end : p.readying.bindings ≡ p.outputs.bindings * p.abstracts.bindings
-  steps-end = by_part (λ (z : Part). z.readying.bindings ≡ z.outputs.bindings * z.abstracts.bindings) refl
-
-  matches-end : p.meeting.bindings ≡ p.abstracts.bindings
-  matches-end = by_part (λ (z : Part). z.meeting.bindings ≡ z.abstracts.bindings) refl
+  -- ---- where a step or an after state is found
 
   module _ {f : ℕ → Bool} {from e : ℕ} (r : Option ℕ) where
     pub steps-found-or : Sought f from e (unwrap_or r p.readying.bindings) → Sought f from e (unwrap_or r (p.outputs.bindings * p.abstracts.bindings))

@@ -2,7 +2,7 @@
 -- Assumes nothing.
 use mathlib.Core.Path.{subst}
 use mathlib.Core.List.{List}
-use Prim.Native.Nat.{ℕ, ◌+◌, ◌*◌}
+use Prim.Native.Nat.{ℕ, ◌+◌, ◌*◌, ◌<◌}
 use native.Mathlib.Omega.{arith}
 use lib.ListN.{length}
 use Rattle.form.specs.Tree.{Operation, Dossier}
@@ -18,8 +18,9 @@ use Rattle.parts.proofs.PartSearchesCorrectnessNest as correctness
 use Rattle.parts.proofs.PartSearchesInitialisationNest as initialisation
 use Rattle.parts.specs.SearchPromises.{OpeningReady, CorrectnessReady, LookAsked}
 use Rattle.parts.proofs.LookLaws.{state-cells}
-use Rattle.parts.proofs.SetupLaws.{opening-counts, OperationLook, operation-counts, correctness-is}
-use Rattle.step_searches.specs.StepPromises.{StatesFew, StepSearches, PrepareAsked, Prepared, OpenAsked, Opened}
+use Rattle.part_setup.proofs.AskedParts.{opening-counts}
+use Rattle.parts.proofs.SetupLaws.{OperationLook, operation-counts, correctness-is}
+use Rattle.step_searches.specs.StepPromises.{StatesFew, StepSearches, ReadAsked, PrepareAsked, Prepared, OpenAsked, Opened}
 
 states-few : {table rows firsts groups : List ℕ} {d : Dossier} → ReadingOf table rows firsts groups d → StatesFew d
 states-few R = record {
@@ -28,6 +29,10 @@ states-few R = record {
   abstract_bindings_lem = R.abstracts.bindings;
   concrete_bindings_lem = R.concretes.bindings;
 }
+
+-- operations below the last one are listed
+pub prepare-asked : {table rows firsts groups : List ℕ} {operations j : ℕ} → ReadAsked table rows firsts groups operations → j < operations → PrepareAsked table rows firsts groups j
+prepare-asked q h = record { dossier = q.dossier; reading = q.reading; listed = omega (arith, q.many, h) }
 
 module _ {table rows firsts groups : List ℕ} {j : ℕ} where
   pub correctness-look : PrepareAsked table rows firsts groups j → LookAsked table rows firsts groups (2 + 2 * j)
@@ -69,7 +74,7 @@ module _ {table rows firsts groups : List ℕ} where
   pub opened : {plan cells : List ℕ} {p : Part} → OpeningReady table rows firsts groups plan cells p → Opened table rows firsts groups plan cells p
   opened {plan} {cells} {p} r = record {
     searches = λ d R.
-        let c = opening-counts R r.cells_set in
+        let c = opening-counts R.abstracts R.concretes r.cells_set in
         let C : StatesCelled cells d = state-cells c.cells_are in
         record {
           part_is = r.part_is.is (unprimed d d.abstract) (unprimed d d.concrete) c;

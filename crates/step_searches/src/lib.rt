@@ -2,7 +2,8 @@
 // with the variables that are given at one of their bindings and all others at their first values.
 // Form 5: the memory goes with the search through eight functions: it is written where the search is read, and in one struct, lent to be written, each of the eight
 // would promise that the search is the same behind it. What is asked of an initialisation part is asked of two functions: a struct around `PartSearch` with its
-// `Model` is twelve lines for two clauses.
+// `Model` is twelve lines for two clauses. That a number is one of the abstract bindings is asked of two functions here and of four in `step_facts`: a type of such numbers would have the
+// search as a ghost field, and each of the six would ask instead that it is the search that is lent beside it.
 #![tactic(auto)]
 
 ghost use Rattle.std.specs.Prelude.{◌*◌, ◌<◌, ◌≤◌, IfSome, unwrap_or};
@@ -248,10 +249,7 @@ pub fn next_concrete_step(
     let span = Span {
         u: STEPS,
         j: 0,
-        size: GroupSize {
-            variables: p.outputs.variables + p.primes.variables,
-            bindings: p.outputs.bindings * p.concretes.bindings,
-        },
+        size: p.outputs.with(p.concretes),
         from,
     };
     next_with(&s.search, &[state, inputs], span, memo)

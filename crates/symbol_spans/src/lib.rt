@@ -1,7 +1,7 @@
 // Symbols of a text, and stretches of them by their kinds: the operands of an operator, the atom that it stands in. They say where to try another text, not what a text means.
 #![tactic(auto)]
 
-ghost use Rattle.std.specs.Prelude.{◌≡◌, ◌==◌, ◌≤◌, ◌<◌, ◌⊎◌, count_by, take, slice_index, Some};
+ghost use Rattle.std.specs.Prelude.{◌≡◌, ◌==◌, ◌-◌, ◌≤◌, ◌<◌, ◌⊎◌, count_by, take, replicate, slice_index, Some};
 ghost use Rattle.symbol_spans.specs.declared.Bracket.TheVariants.{Open, Close};
 
 use lexical::bounds::SYMBOLS;
@@ -39,6 +39,43 @@ pub struct Symbols<'a> {
     pub kinds: &'a [u8],
     pub starts: &'a [u16],
     pub values: &'a [u16],
+}
+
+// The arrays that the symbols of a text are scanned into.
+#[derive(Drop)]
+pub struct SymbolArrays {
+    pub kinds: [u8; SYMBOLS],
+    pub starts: [u16; SYMBOLS],
+    pub values: [u16; SYMBOLS],
+}
+
+impl SymbolArrays {
+    pub fn new() -> Self
+        ensures kinds { result.kinds ≡ replicate 4096 0 }
+        ensures starts { result.starts ≡ replicate 4096 0 }
+        ensures values { result.values ≡ replicate 4096 0 }
+    {
+        SymbolArrays {
+            kinds: [0; SYMBOLS],
+            starts: [0; SYMBOLS],
+            values: [0; SYMBOLS],
+        }
+    }
+
+    // The symbols of the text that was scanned.
+    pub fn symbols<'a>(&'a self, text: &'a [u8]) -> Symbols<'a>
+        ensures text { result.text.now ≡ text.now }
+        ensures kinds { result.kinds.now ≡ self.now.kinds }
+        ensures starts { result.starts.now ≡ self.now.starts }
+        ensures values { result.values.now ≡ self.now.values }
+    {
+        Symbols {
+            text,
+            kinds: &self.kinds,
+            starts: &self.starts,
+            values: &self.values,
+        }
+    }
 }
 
 // How tight a kind binds.
@@ -96,10 +133,7 @@ impl Symbols<'_> {
 
     // The kind of the symbol before s, 0 before the first one. Form 1: as `kind` past the last one.
     pub fn kind_before(&self, s: usize) -> u8 {
-        match s.checked_sub(1) {
-            Some(k) => self.kind(k),
-            None => 0,
-        }
+        s.checked_sub(1).map_or(0, |k| self.kind(k))
     }
 
     // The first byte of a symbol, 0 past the last one.
@@ -115,6 +149,17 @@ impl Symbols<'_> {
         ensures { slice_index self.now.starts.now s ≤ result }
     {
         symbol_end(self.text, self.start(s))
+    }
+
+    // The bytes of some symbols, from the first one's start to the last one's end.
+    pub fn bytes(&self, s: Span) -> Span
+        ensures begins { result.from ≡ slice_index self.now.starts.now s.from }
+        ensures ends { slice_index self.now.starts.now (s.to - 1) ≤ result.to }
+    {
+        Span {
+            from: self.start(s.from),
+            to: self.end(s.to.saturating_sub(1)),
+        }
     }
 
     // Have two symbols the same letters?
@@ -176,10 +221,11 @@ impl Symbols<'_> {
         ensures { result ≤ s }
     {
         let mut depth: usize = 0;
-        (0..s)
+        let many = (0..s)
             .rev()
-            .find(|&k| self.is_end(k, &mut depth, least, Bracket::Close))
-            .map_or(0, |k| k + 1)
+            .take_while(|&k| !self.is_end(k, &mut depth, least, Bracket::Close))
+            .count();
+        s.saturating_sub(many)
     }
 
     // Behind the last symbol of what stands from s on and binds so tight.
@@ -187,9 +233,10 @@ impl Symbols<'_> {
         ensures { s ≤ result }
     {
         let mut depth: usize = 0;
-        (s..SYMBOLS)
-            .find(|&k| self.is_end(k, &mut depth, least, Bracket::Open))
-            .unwrap_or(s.max(SYMBOLS))
+        let many = (s..SYMBOLS)
+            .take_while(|&k| !self.is_end(k, &mut depth, least, Bracket::Open))
+            .count();
+        s.saturating_add(many)
     }
 
     // Does a term go on around what begins at s: a bracket, or a brace that lists?

@@ -49,10 +49,7 @@ pub fn next_slot(s: u16) -> u16
 fn size_of(sizes: &[u16], set: Option<u16>) -> u16
     ensures { result ≡ set_size sizes.now set }
 {
-    match set {
-        Some(g) => look(sizes, usize::from(g)),
-        None => 0,
-    }
+    set.map_or(0, |g| look(sizes, usize::from(g)))
 }
 
 // How many elements the given set has that a name is; that elements are of; that the first and the second sides of pairs are of.

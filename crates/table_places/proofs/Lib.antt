@@ -9,6 +9,7 @@ pub mod WritingAll
 -- what crates above name of crates below
 pub use Rattle.names.proofs.ReachTables as NamesReachTables
 pub use Rattle.names.proofs.TypesAgreeLeast as NamesTypesAgreeLeast
+pub use Rattle.names.proofs.TypesAgreeRanges as NamesTypesAgreeRanges
 pub use Rattle.names.proofs.TypesAgreeScope as NamesTypesAgreeScope
 pub use Rattle.names.proofs.TypesAgreeTypes as NamesTypesAgreeTypes
 pub use Rattle.names.proofs.DeclaredNamesNodePieces as NamesNodePieces

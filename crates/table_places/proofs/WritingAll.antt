@@ -11,7 +11,8 @@ use Rattle.form.specs.Codes.{Numbering, abstractly_at, pred_width, condition_cod
 use Rattle.names.specs.StaticRulesScope.{contexts, concrete_taken}
 use Rattle.type_rules.specs.TypesByNumber.{Names, Sizes}
 use Rattle.names.specs.DeclaredNamesNamesByNumber.{Typed, typed_codes, variables_of, state_named, conditions_named}
-use Rattle.names.specs.DeclaredNamesPassPromises.{PartOf, Variables}
+use Rattle.node_spans.specs.ParserSections.{PartOf}
+use Rattle.names.specs.DeclaredNamesPassPromises.{Variables}
 use Rattle.names.proofs.PassSteps.{variables-codes}
 use Rattle.node_spans.specs.ParserSections.{operations_from}
 use Rattle.node_spans.specs.Spans.{operation_spans, spans_of, span, Structured}
@@ -19,7 +20,7 @@ use Rattle.table_nodes.specs.TableByNumber.{Places}
 use Rattle.table_places.specs.DossierTable.{operation_starts, starts_of}
 use Rattle.table_places.specs.DossierTableByNumber.{givens_placed, placing, states_placed, kinds_of, places_of, with_tables, with_nodes, with_operations, declared_nodes, table_by}
 use Rattle.table_places.specs.TablePromises.{ElementsSet, VariablesSet, with_state, StateSet, StatesSet, with_conditions, ConditionsSet, tables_from, OperationsSet, PlacesSet, declared_by, DeclaredSet, starts_by, places_by, ContextsSet, TableSet}
-use Rattle.table_places.proofs.WritingTypes.{part-stands}
+use Rattle.node_spans.proofs.StandingParts.{part-stands}
 
 -- the places of elements and of both states' variables
 pub places-set : (gs A C : List ℕ) (W W₁ W₂ W₃ W₄ Y : Places) → ElementsSet gs W W₁ → VariablesSet A 0 0 W₁ W₂ → VariablesSet A 1 30 W₂ W₃ → VariablesSet C 0 8 W₃ W₄
@@ -36,20 +37,15 @@ places-set gs A C W W₁ W₂ W₃ W₄ Y es a₀ a₁ c₀ c₁ d i ρ e v =
     c₁ cv v.j ρ c ∙ ap (λ (w : Places). placing cv 1 22 w ρ) w₄
 
 -- places read from the spans
-pub state-read : (nodes : List ℕ) (a a' b b' c c' : ℕ) (T U : Names) (W Y : Places) (z : Sizes) (out after : List ℕ) → a ≡ a' → b ≡ b' → c ≡ c'
-    → StateSet nodes a b c T U W Y z out after → StateSet nodes a' b' c' T U W Y z out after
-state-read nodes a a' b b' c c' T U W Y z out after p q r s =
-    subst (λ (m : ℕ). StateSet nodes a' b' m T U W Y z out after) r
-    (subst (λ (m : ℕ). StateSet nodes a' m c T U W Y z out after) q (subst (λ (m : ℕ). StateSet nodes m b c T U W Y z out after) p s))
+pub state-read : (nodes : List ℕ) (a b c c' : ℕ) (T U : Names) (W Y : Places) (z : Sizes) (out after : List ℕ) → c ≡ c'
+    → StateSet nodes a b c T U W Y z out after → StateSet nodes a b c' T U W Y z out after
+state-read nodes a b c c' T U W Y z out after r s = subst (λ (m : ℕ). StateSet nodes a b m T U W Y z out after) r s
 
 pub conditions-read : (nodes A C : List ℕ) (a a' b b' c c' : ℕ) (T U : Names) (W Y : Places) (z : Sizes) (out after : List ℕ) → a ≡ a' → b ≡ b' → c ≡ c'
     → ConditionsSet nodes A C a b c T U W Y z out after → ConditionsSet nodes A C a' b' c' T U W Y z out after
 conditions-read nodes A C a a' b b' c c' T U W Y z out after p q r s =
     subst (λ (m : ℕ). ConditionsSet nodes A C a' b' m T U W Y z out after) r
     (subst (λ (m : ℕ). ConditionsSet nodes A C a' m c T U W Y z out after) q (subst (λ (m : ℕ). ConditionsSet nodes A C m b c T U W Y z out after) p s))
-
-pub part-read : (nodes : List ℕ) (a a' b b' : ℕ) (r : List ℕ) → a ≡ a' → b ≡ b' → PartOf nodes a b r → PartOf nodes a' b' r
-part-read nodes a a' b b' r p q s = subst (λ (m : ℕ). PartOf nodes a' m r) q (subst (λ (m : ℕ). PartOf nodes m b r) p s)
 
 -- the table of all contexts is that of the states, of the conditions, and of the operations
 abbrev after_states : Dossier → Names → Numbering → Names

@@ -20,7 +20,9 @@ use Rattle.std.specs.Bool.{then_some}
 use Rattle.std.specs.Option.{unwrap_or}
 use Rattle.type_rules.specs.TypesByNumber.{Names, Sizes, entry, is_given, given_in}
 use Rattle.names.specs.DeclaredNamesNamesByNumber.{Typed, typed_codes, variables_of, parameters_of}
-use Rattle.names.specs.DeclaredNamesPassPromises.{PartOf, typed_code}
+use Rattle.node_spans.specs.ParserSections.{PartOf}
+use Rattle.node_spans.proofs.StandingParts.{part-stands}
+use Rattle.names.specs.DeclaredNamesPassPromises.{typed_code}
 use Rattle.names.proofs.DeclaredNamesDeclarationNodes.{node-a, node-b, node-shape, shape_of, place_of, left_of, right_of, as-node, typed-type, Walked, finished}
 use Rattle.type_rules.proofs.TypeNumbers.{cond_yes, cond_no, given-bounds}
 use Rattle.names.proofs.PassSteps.{variables-codes, parameters-codes}
@@ -108,9 +110,6 @@ unfolding with_types
 typing-on T z code at q q' p out after n b h ρ x xs j rest e =
     sym (ap₂ (λ (m : ℕ) (o : List ℕ). with_types T z ρ m xs o) n
     (h x.type (j + 2) ρ rest (typed-type code at x j ρ rest e) ∙ ap (λ (m : ℕ). patch m (type_node x.type T z ρ) out) b))
-
-pub part-stands : (nodes : List ℕ) (from to : ℕ) (code l : List ℕ) → PartOf nodes from to code → Stands nodes from to l → code ≡ l
-part-stands nodes from to code l p s = p.part s.ordered s.inside ∙ s.stands
 
 -- a type's node by itself
 pub type-moved : (code : List ℕ) (at m q : ℕ) (T : Names) (z : Sizes) (out after : List ℕ) → m ≡ 4 → TypeSet (take m (drop at code)) 0 q T z out after

@@ -49,13 +49,16 @@ unfoldable pub element_size : Scope → Term → ℕ
 element_size Γ t = get_or (over_sizes Γ.givens (type_in Γ t)) 0 0
 
 -- 2 a variable or a bound name, by its slot; 1 an element, by its place, or a number
-abbrev placed : Option (Name × ℕ) → Option Given → Name → List ℕ
+abbrev pub placed : Option (Name × ℕ) → Option Given → Name → List ℕ
 placed (some w) g x = node 2 0 w.1 0
 placed none none x = node 1 0 0 0
 placed none (some g) x = node 1 0 (place_in (elements g) x) 0
 
+abbrev pub slot_of : Slots → Name → Option (Name × ℕ)
+slot_of W x = find (λ (w : Name × ℕ). same_name w.0 x) W
+
 unfoldable pub name_table : Scope → Slots → Name → List ℕ
-name_table Γ W x = placed (find (λ (w : Name × ℕ). same_name w.0 x) W) (element_of Γ.givens x) x
+name_table Γ W x = placed (slot_of W x) (element_of Γ.givens x) x
 
 -- 13 the values that a name is bound over, or a range: the first, with 1,000 added, and how many
 unfoldable pub domain_table : Domain → Scope → List ℕ

@@ -4,8 +4,7 @@ ghost use Rattle.table_places.specs.DossierTableByNumber.{given_index};
 ghost use Rattle.table_places.specs.TablePromises.{TableRoom, TypeSet, TypesSet, OperationTypesSet, DeclaredSet};
 
 use form::{node, shapes};
-use names::passes::part;
-use node_spans::{operation_spans, span, span_at};
+use node_spans::{between, operation_spans, span, span_at};
 use table_nodes::nodes::{given_size, range_count, set_node};
 use type_rules::entries;
 use type_rules::entries::Kind;
@@ -67,7 +66,7 @@ fn set_types(s: &Declarations<'_>, from: usize, to: usize, out: &mut [u16])
     requires { TableRoom s.now.nodes.now out.old }
     ensures { TypesSet s.now.nodes.now from to s.now.names.now s.now.sizes.now out.old out.new }
 {
-    let code = part(s.nodes, from, to);
+    let code = between(s.nodes, from, to);
     for (k, d) in code.chunks_exact(node::DECLARATION).enumerate() {
         // the type's node stands behind the name's
         set_type(

@@ -5,7 +5,7 @@ use Prim.Native.Nat.{ℕ, ◌+◌, ◌≤◌}
 use native.Mathlib.Omega.{arith}
 use lib.ListN.{length, replicate, length-replicate}
 use Rattle.lexical.specs.Symbols.{Name}
-use Rattle.form.specs.Tree.{Letters, Operation, Dossier}
+use Rattle.form.specs.Tree.{Letters, inward, outward, Operation, Dossier}
 use Rattle.form.specs.Headings.{operations_at, operation_length}
 use Rattle.form.specs.Codes.{Numbering, name_number}
 use Rattle.static_rules.specs.Carriers.{Variable}
@@ -24,7 +24,8 @@ use Rattle.table_places.specs.DossierTableByNumber.{parameters_placed, operation
 use Rattle.search_groups.specs.GroupPromises.{FewEach, few_none, few_more, Few}
 use Rattle.search_groups.proofs.ScopePlaces.{PlacesShown}
 use Rattle.tables.proofs.SlotPlaces.{into, joined, slotted-names, names-append, shown_by}
-use Rattle.tables.proofs.ParameterPlaces.{numbered, inputs-slotted, outputs-slotted, inputs_few, outputs_few, parameters-hold}
+use Rattle.tables.proofs.DeclaredPlaces.{parameters_few}
+use Rattle.tables.proofs.ParameterPlaces.{numbered, parameters-slotted, parameters-hold}
 use Rattle.tables.proofs.StatePlaces.{Operated, none_operated, one_operated, Separate, no-faults, below}
 use Rattle.tables.proofs.StatePlaces.{abstract_primed, concrete_primed, Told, state_entries, states-told, parameters-told, states-hold}
 
@@ -79,8 +80,8 @@ module _ (ρ : Numbering) (P : Letters → Type 0) (ν : Numbered ρ P) (d : Dos
       let t' = parameters-told d h f t o.parameters 16 19 in
       let I = slotted 16 (inputs d o) in
       let O = slotted 19 (outputs d o) in
-      let k = joined I O f' (inputs-slotted d.givens n 16 19 f (below 16 (inputs d o) (omega (arith, inputs_few d.givens o.parameters, a.inputs))))
-      (outputs-slotted d.givens n 16 19 f (below 19 (outputs d o) (omega (arith, outputs_few d.givens o.parameters, a.outputs)))) in
+      let k = joined I O f' (parameters-slotted d.givens inward n 16 19 f (below 16 (inputs d o) (omega (arith, parameters_few d inward o a))))
+      (parameters-slotted d.givens outward n 16 19 f (below 19 (outputs d o) (omega (arith, parameters_few d outward o a)))) in
       one_placed
       (shown_by ρ P d.givens (o.title ∷ xs) (operation_reach d d.abstract o) (abstract_slots d ++ abstract_primed d ++ parameter_slots d o) f' T' w'
       (joined (abstract_slots d ++ abstract_primed d) (I ++ O) f' (joined (abstract_slots d) (abstract_primed d) f' t'.abstract_told t'.abstract_primed_lem) k) t'.elements_told

@@ -1,18 +1,18 @@
 -- Variables declared without faults: their slots as the table has them, plain and primed.
 use mathlib.Core.Path.{◌≡◌, refl, ap, ◌∙◌, sym, subst}
-use mathlib.Core.Bool.{true, false}
-use mathlib.Core.List.{List, [], ◌∷◌, ◌++◌}
+use mathlib.Core.Bool.{Bool, true, false}
+use mathlib.Core.List.{List, [], ◌∷◌, ◌++◌, map}
 use mathlib.Core.Option.{Option, none, some}
 use Prim.Native.Nat.{ℕ, suc, ◌+◌, ◌≤◌}
 use native.Mathlib.Omega.{arith}
-use lib.ListN.{length, set}
-use Rattle.lexical.specs.Lists.{find}
+use lib.ListN.{length, length-map, set}
+use Rattle.lexical.specs.Lists.{find, filter}
 use Rattle.lexical.specs.Symbols.{Name, Ending, no_ending}
-use Rattle.form.specs.Tree.{Letters, Given, Declaration}
-use Rattle.form.specs.Written.{write_type}
+use Rattle.form.specs.Tree.{Letters, Given, Declaration, Direction, inward, outward, Parameter, Operation, Dossier}
+use Rattle.form.specs.Written.{ending_of, write_type}
 use Rattle.form.specs.Codes.{Numbering, ending_number, number_of_name, name_number}
 use Rattle.static_rules.specs.Carriers.{Carrier, Variable, ending_code, same_name, plain, carrier_of}
-use Rattle.static_rules.specs.Scope.{variables}
+use Rattle.static_rules.specs.Scope.{variables, is_input, is_output, parameters_of}
 use Rattle.static_rules.specs.Names.{new_name, type_faults, declaration_faults}
 use Rattle.declared_names.specs.NamesByNumber.{variables_of}
 use Rattle.names.proofs.ReachTables.{Numbered}
@@ -25,13 +25,14 @@ use Rattle.names.proofs.PassAgreesGivens.{Holds, entered}
 use Rattle.names.proofs.PassAgreesStates.{names_of}
 use Rattle.names.proofs.PassAgreesParameters.{name_of}
 use Rattle.table_nodes.specs.TableByNumber.{Places}
-use Rattle.table_places.specs.ResolvedTable.{Slots, slotted}
+use Rattle.table_places.specs.ResolvedTable.{slot_of, Slots, slotted}
 use Rattle.table_places.specs.DossierTableByNumber.{placing}
-use Rattle.search_groups.proofs.ScopePlaces.{slot_of, slot-there}
+use Rattle.search_groups.specs.GroupPromises.{FewParameters}
+use Rattle.search_groups.proofs.ScopePlaces.{slot-there}
 use Rattle.tables.proofs.SlotPlaces.{Named, no_named, one_named, named-map, Once, no_once, one_once, into, write}
 use Rattle.refusals.proofs.FaultLists.{append_nil-both}
 use Rattle.static_rules.proofs.FoundCarriers.{variables-one}
-use Rattle.lexical.proofs.BooleanTests.{not-true}
+use Rattle.std.proofs.lemmas.Bool.{false_from_ne_true}
 
 -- declarations without faults, where the names xs are in use: each name is new, and each type has its carrier
 pub data Declared (gs : List Given) : List Letters → List Declaration → Type 0 where
@@ -62,7 +63,7 @@ declared-off none_declared e s y u = refl
 declared-off {gs = gs} (one_declared {xs = xs} {d = d} {ds = ds} c f g h) e s y u =
     ap (λ (W : Slots). slot_of W y) (group-one gs e s d ds c g)
     ∙ slot-there (name_of d.declared e, s) (slotted (suc s) (variables gs e ds)) y
-    (not-true (same_name (name_of d.declared e) y) (λ k. no-yes (sym f ∙ ap (λ (n : Name). in_use xs (plain n.letters)) (same-name (name_of d.declared e) y k) ∙ u)))
+    (false_from_ne_true (same_name (name_of d.declared e) y) (λ k. no-yes (sym f ∙ ap (λ (n : Name). in_use xs (plain n.letters)) (same-name (name_of d.declared e) y k) ∙ u)))
     ∙ declared-off h e (suc s) y (use-there d.declared xs (plain y.letters) u)
 
 pub declared-once : {gs : List Given} {xs : List Letters} {ds : List Declaration} → Declared gs xs ds → (e : Ending) (s : ℕ) → Once (slotted s (variables gs e ds))
@@ -113,3 +114,17 @@ module _ (ρ : Numbering) (P : Letters → Type 0) (ν : Numbered ρ P) (gs : Li
       (subst (λ (j : ℕ). Holds ρ P (placing (variables_of no_ending ds) (ending_number e) (suc s) (set T j s) ρ)
       (into (slotted (suc s) (variables gs e ds)) (entered (name_of d.declared e) s f))) m
       (placing-holds {xs = d.declared ∷ xs} ds k t (suc s) (write ρ P ν h (name_of d.declared e) p s)))
+
+-- ---- inputs, and outputs, are no more than were declared
+
+kept-few : (gs : List Given) (e : Ending) (f : Parameter → Bool) (ps : List Parameter) → length (filter f ps) ≤ 3
+    → length (variables gs e (map (λ (x : Parameter). x.declaration) (filter f ps))) ≤ 3
+kept-few gs e f ps h =
+    let l = variables-few gs e (map (λ (x : Parameter). x.declaration) (filter f ps)) in
+    let m = length-map (filter f ps) (λ (x : Parameter). x.declaration) in
+    omega arith
+
+pub parameters_few : (d : Dossier) (e : Direction) (o : Operation) → FewParameters o → length (parameters_of d.givens e o.parameters) ≤ 3
+unfolding parameters_of
+parameters_few d inward o h = kept-few d.givens (ending_of inward) (λ (x : Parameter). is_input x.direction) o.parameters h.inputs
+parameters_few d outward o h = kept-few d.givens (ending_of outward) (λ (x : Parameter). is_output x.direction) o.parameters h.outputs

@@ -19,9 +19,9 @@ use Rattle.names.proofs.PassAgreesUse.{in_use, use-left, use-right, use-here, us
 use Rattle.names.proofs.PassAgreesGivens.{AllIn, none_in, one_in, GivensIn, no_givens, one_given, Holds, entered}
 use Rattle.names.proofs.PassAgreesParameters.{name_of, use-ending}
 use Rattle.table_nodes.specs.TableByNumber.{Places}
-use Rattle.table_places.specs.ResolvedTable.{Slots}
+use Rattle.table_places.specs.ResolvedTable.{slot_of, Slots}
 use Rattle.table_places.specs.DossierTableByNumber.{elements_placed, givens_placed}
-use Rattle.search_groups.proofs.ScopePlaces.{slot_of, slot-there}
+use Rattle.search_groups.proofs.ScopePlaces.{slot-there}
 use Rattle.tables.proofs.SlotPlaces.{none-some, into, into-none, Elements, write}
 use Rattle.refusals.proofs.FaultLists.{append_nil-both}
 use Rattle.names.proofs.TypesAgreeScope.{some_one}

@@ -4,8 +4,7 @@ use mathlib.Core.Bool.{Bool, true, false, not}
 use mathlib.Core.List.{List, [], ◌∷◌, ◌++◌, map}
 use mathlib.Core.Option.{none, some}
 use Prim.Native.Nat.{ℕ, suc, ◌+◌, ◌≤◌}
-use native.Mathlib.Omega.{arith}
-use lib.ListN.{length, length-map}
+use lib.ListN.{length}
 use borrow.Author.Tests.{not-true}
 use Rattle.lexical.specs.Lists.{any, find, filter}
 use Rattle.lexical.specs.Symbols.{Name, query, shriek}
@@ -27,13 +26,13 @@ use Rattle.names.proofs.PassAgreesDeclared.{TypedIn, no_typed, one_typed}
 use Rattle.names.proofs.PassAgreesGivens.{Holds}
 use Rattle.names.proofs.PassAgreesParameters.{name_of, direction-ending}
 use Rattle.table_nodes.specs.TableByNumber.{Places}
-use Rattle.table_places.specs.ResolvedTable.{Slots, slotted}
+use Rattle.table_places.specs.ResolvedTable.{slot_of, Slots, slotted}
 use Rattle.table_places.specs.DossierTableByNumber.{parameter_slot, next_input, next_output, parameters_placed}
-use Rattle.search_groups.proofs.ScopePlaces.{slot_of, slot-here, slot-there}
+use Rattle.search_groups.proofs.ScopePlaces.{slot-here, slot-there}
 use Rattle.tables.proofs.SlotPlaces.{none-some, first-or_later, Named, no_named, one_named, Once, no_once, one_once, into, into-some, Slotted, Below, write}
-use Rattle.tables.proofs.DeclaredPlaces.{group-one, variables-few}
+use Rattle.tables.proofs.DeclaredPlaces.{group-one}
 use Rattle.refusals.proofs.FaultLists.{append_nil-both, unless-nil}
-use Rattle.lexical.proofs.BooleanTests as tests
+use Rattle.std.proofs.lemmas.Bool.{false_from_ne_true}
 
 -- the slots in declared order: the next input has the slot i, the next output the slot o
 unfoldable pub numbered : List Parameter → (i o : ℕ) → Slots
@@ -74,7 +73,7 @@ unfolding numbered find
 numbered-off no_parameters i o y u = refl
 numbered-off (one_parameter {xs = xs} {y = x} {ys = ys} c f g h) i o y u =
     slot-there (parameter_name x, parameter_slot x.direction i o) (numbered ys (next_input x.direction i) (next_output x.direction o)) y
-    (tests.not-true (same_name (parameter_name x) y) (λ k. no-yes (sym f ∙ ap (λ (n : Name). called xs n) (same-name (parameter_name x) y k) ∙ u)))
+    (false_from_ne_true (same_name (parameter_name x) y) (λ k. no-yes (sym f ∙ ap (λ (n : Name). called xs n) (same-name (parameter_name x) y k) ∙ u)))
     ∙ numbered-off h (next_input x.direction i) (next_output x.direction o) y (called-there x xs y u)
 
 -- no later parameter has the name of an earlier one
@@ -97,67 +96,40 @@ numbered-ended (x ∷ ps) i o = one_named (direction-ending x.direction) (number
 -- a slot that is found behind another name's is found
 behind : (v : Name × ℕ) (N : Slots) (y : Name) (w : Name × ℕ) → slot_of N v.0 ≡ none → slot_of N y ≡ some w → slot_of (v ∷ N) y ≡ some w
 behind v N y w n e =
-    slot-there v N y (tests.not-true (same_name v.0 y) (λ k. none-some (sym (ap (λ (x : Name). slot_of N x) (sym (same-name v.0 y k)) ∙ n) ∙ e))) ∙ e
+    slot-there v N y (false_from_ne_true (same_name v.0 y) (λ k. none-some (sym (ap (λ (x : Name). slot_of N x) (sym (same-name v.0 y k)) ∙ n) ∙ e))) ∙ e
 
 front : (v : Name × ℕ) (W N : Slots) (y : Name) (w : Name × ℕ) → slot_of (v ∷ W) y ≡ some w → (slot_of W y ≡ some w → slot_of N y ≡ some w) → slot_of (v ∷ N) y ≡ some w
 front v W N y w e r = first-or_later v W y w e (λ k l. slot-here v N y k ∙ l) (λ k l. slot-there v N y k ∙ r l)
 
 module _ (gs : List Given) (y : Name) (w : Name × ℕ) where
-  input-one : (c : Direction) (d : Declaration) (ps : List Parameter) (k : Carrier) → carrier_of gs d.type ≡ some k → (i o : ℕ) (N : Slots)
+  parameter-one : (e c : Direction) (d : Declaration) (ps : List Parameter) (k : Carrier) → carrier_of gs d.type ≡ some k → (i o : ℕ) (N : Slots)
       → slot_of N (name_of d.declared (ending_of c)) ≡ none
-      → (slot_of (slotted (next_input c i) (scopes.parameters_of gs inward ps)) y ≡ some w → slot_of N y ≡ some w)
-      → slot_of (slotted i (scopes.parameters_of gs inward (record { direction = c; declaration = d } ∷ ps))) y ≡ some w
+      → (slot_of (slotted (parameter_slot e (next_input c i) (next_output c o)) (scopes.parameters_of gs e ps)) y ≡ some w → slot_of N y ≡ some w)
+      → slot_of (slotted (parameter_slot e i o) (scopes.parameters_of gs e (record { direction = c; declaration = d } ∷ ps))) y ≡ some w
       → slot_of ((name_of d.declared (ending_of c), parameter_slot c i o) ∷ N) y ≡ some w
   unfolding scopes.parameters_of filter
-  input-one inward d ps k e i o N n r h =
+  parameter-one inward inward d ps k g i o N n r h =
       front (name_of d.declared query, i) (slotted (suc i) (scopes.parameters_of gs inward ps)) N y w
-      (sym (ap (λ (W : Slots). slot_of W y) (group-one gs query i d (map (λ (x : Parameter). x.declaration) (filter (λ (x : Parameter). is_input x.direction) ps)) k e)) ∙ h) r
-  input-one outward d ps k e i o N n r h = behind (name_of d.declared shriek, o) N y w n (r h)
-
-  output-one : (c : Direction) (d : Declaration) (ps : List Parameter) (k : Carrier) → carrier_of gs d.type ≡ some k → (i o : ℕ) (N : Slots)
-      → slot_of N (name_of d.declared (ending_of c)) ≡ none
-      → (slot_of (slotted (next_output c o) (scopes.parameters_of gs outward ps)) y ≡ some w → slot_of N y ≡ some w)
-      → slot_of (slotted o (scopes.parameters_of gs outward (record { direction = c; declaration = d } ∷ ps))) y ≡ some w
-      → slot_of ((name_of d.declared (ending_of c), parameter_slot c i o) ∷ N) y ≡ some w
-  unfolding scopes.parameters_of filter
-  output-one outward d ps k e i o N n r h =
+      (sym (ap (λ (W : Slots). slot_of W y) (group-one gs query i d (map (λ (x : Parameter). x.declaration) (filter (λ (x : Parameter). is_input x.direction) ps)) k g)) ∙ h) r
+  parameter-one inward outward d ps k g i o N n r h = behind (name_of d.declared shriek, o) N y w n (r h)
+  parameter-one outward inward d ps k g i o N n r h = behind (name_of d.declared query, i) N y w n (r h)
+  parameter-one outward outward d ps k g i o N n r h =
       front (name_of d.declared shriek, o) (slotted (suc o) (scopes.parameters_of gs outward ps)) N y w
-      (sym (ap (λ (W : Slots). slot_of W y) (group-one gs shriek o d (map (λ (x : Parameter). x.declaration) (filter (λ (x : Parameter). is_output x.direction) ps)) k e)) ∙ h) r
-  output-one inward d ps k e i o N n r h = behind (name_of d.declared query, i) N y w n (r h)
+      (sym (ap (λ (W : Slots). slot_of W y) (group-one gs shriek o d (map (λ (x : Parameter). x.declaration) (filter (λ (x : Parameter). is_output x.direction) ps)) k g)) ∙ h) r
 
-  inputs_in : {xs ps : List Parameter} → Parametrised gs xs ps → (i o : ℕ) → slot_of (slotted i (scopes.parameters_of gs inward ps)) y ≡ some w → slot_of (numbered ps i o) y ≡ some w
+  parameters_in : (e : Direction) {xs ps : List Parameter} → Parametrised gs xs ps → (i o : ℕ) → slot_of (slotted (parameter_slot e i o) (scopes.parameters_of gs e ps)) y ≡ some w
+      → slot_of (numbered ps i o) y ≡ some w
   unfolding numbered scopes.parameters_of filter variables slotted find
-  inputs_in no_parameters i o e = none-some e
-  inputs_in (one_parameter {y = x} {ys = ps} c f g h) i o e =
-      input-one x.direction x.declaration ps c g i o (numbered ps (next_input x.direction i) (next_output x.direction o))
-      (later_off x h (next_input x.direction i) (next_output x.direction o)) (inputs_in h (next_input x.direction i) (next_output x.direction o)) e
-
-  outputs_in : {xs ps : List Parameter} → Parametrised gs xs ps → (i o : ℕ) → slot_of (slotted o (scopes.parameters_of gs outward ps)) y ≡ some w → slot_of (numbered ps i o) y ≡ some w
-  unfolding numbered scopes.parameters_of filter variables slotted find
-  outputs_in no_parameters i o e = none-some e
-  outputs_in (one_parameter {y = x} {ys = ps} c f g h) i o e =
-      output-one x.direction x.declaration ps c g i o (numbered ps (next_input x.direction i) (next_output x.direction o))
-      (later_off x h (next_input x.direction i) (next_output x.direction o)) (outputs_in h (next_input x.direction i) (next_output x.direction o)) e
+  parameters_in inward no_parameters i o q = none-some q
+  parameters_in outward no_parameters i o q = none-some q
+  parameters_in e (one_parameter {y = x} {ys = ps} c f g h) i o q =
+      parameter-one e x.direction x.declaration ps c g i o (numbered ps (next_input x.direction i) (next_output x.direction o))
+      (later_off x h (next_input x.direction i) (next_output x.direction o)) (parameters_in e h (next_input x.direction i) (next_output x.direction o)) q
 
 -- the entries tell the slots of the inputs, and of the outputs
-module _ (gs : List Given) {ps : List Parameter} (h : Parametrised gs [] ps) (i o : ℕ) (f : Name → ℕ) where
-  pub inputs-slotted : Below (slotted i (scopes.parameters_of gs inward ps)) → Slotted (slotted i (scopes.parameters_of gs inward ps)) (into (numbered ps i o) f)
-  inputs-slotted b y w e = (into-some (numbered-once h i o) f y w (inputs_in gs y w h i o e), b y w e)
-
-  pub outputs-slotted : Below (slotted o (scopes.parameters_of gs outward ps)) → Slotted (slotted o (scopes.parameters_of gs outward ps)) (into (numbered ps i o) f)
-  outputs-slotted b y w e = (into-some (numbered-once h i o) f y w (outputs_in gs y w h i o e), b y w e)
-
-pub inputs_few : (gs : List Given) (ps : List Parameter) → length (scopes.parameters_of gs inward ps) ≤ length (filter (λ (x : Parameter). is_input x.direction) ps)
-unfolding scopes.parameters_of
-inputs_few gs ps =
-    let l = length-map (filter (λ (x : Parameter). is_input x.direction) ps) (λ (x : Parameter). x.declaration) in
-    omega (arith, variables-few gs query (map (λ (x : Parameter). x.declaration) (filter (λ (x : Parameter). is_input x.direction) ps)))
-
-pub outputs_few : (gs : List Given) (ps : List Parameter) → length (scopes.parameters_of gs outward ps) ≤ length (filter (λ (x : Parameter). is_output x.direction) ps)
-unfolding scopes.parameters_of
-outputs_few gs ps =
-    let l = length-map (filter (λ (x : Parameter). is_output x.direction) ps) (λ (x : Parameter). x.declaration) in
-    omega (arith, variables-few gs shriek (map (λ (x : Parameter). x.declaration) (filter (λ (x : Parameter). is_output x.direction) ps)))
+pub parameters-slotted : (gs : List Given) (e : Direction) {ps : List Parameter} → Parametrised gs [] ps → (i o : ℕ) (f : Name → ℕ)
+    → Below (slotted (parameter_slot e i o) (scopes.parameters_of gs e ps)) → Slotted (slotted (parameter_slot e i o) (scopes.parameters_of gs e ps)) (into (numbered ps i o) f)
+parameters-slotted gs e h i o f b y w q = (into-some (numbered-once h i o) f y w (parameters_in gs y w e h i o q), b y w q)
 
 -- ---- the table ----
 

@@ -3,7 +3,7 @@
 use mathlib.Core.Path.{◌≡◌, refl, ap, ◌∙◌, sym, subst}
 use mathlib.Core.Bool.{Bool, true, false, cond}
 use mathlib.Core.List.{List, [], ◌∷◌, ◌++◌, map}
-use mathlib.Core.Option.{Option, none, some}
+use mathlib.Core.Option.{Option, none, some, none-ne-some}
 use Prim.Native.Nat.{ℕ, suc, ◌+◌, ◌<◌}
 use native.Mathlib.Omega.{arith}
 use lib.ListN.{length, set, length-set}
@@ -18,15 +18,11 @@ use Rattle.names.proofs.PassAgreesTables.{same-name, name-refl, changed}
 use Rattle.names.proofs.PassAgreesGivens.{Holds, entered}
 use Rattle.names.proofs.PassAgreesStates.{scope}
 use Rattle.table_nodes.specs.TableByNumber.{Places}
-use Rattle.table_places.specs.ResolvedTable.{Slots, slotted}
-use Rattle.search_groups.proofs.ScopePlaces.{slot_of, slot-here, slot-there, PlaceIs, PlacesShown}
-
-abbrev Is : {A : Type 0} → Option A → Type 0
-Is none = ⊥
-Is (some a) = Unit {0}
+use Rattle.table_places.specs.ResolvedTable.{slot_of, Slots, slotted}
+use Rattle.search_groups.proofs.ScopePlaces.{slot-here, slot-there, PlaceIs, PlacesShown}
 
 pub none-some : {A B : Type 0} {a : A} → ◌≡◌ {A = Option A} none (some a) → B
-none-some e = absurd (subst Is (sym e) tt)
+none-some e = absurd (none-ne-some _ e)
 
 pub no_slot : (o : Option (Name × ℕ)) → ((w : Name × ℕ) → o ≡ some w → ⊥) → o ≡ none
 no_slot none h = refl

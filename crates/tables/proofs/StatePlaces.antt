@@ -19,11 +19,10 @@ use Rattle.names.proofs.PassAgreesGivens.{Holds}
 use Rattle.static_rules.proofs.Faultless as parts
 use Rattle.names.proofs.PassAgrees.{DossierIn}
 use Rattle.table_nodes.specs.TableByNumber.{Places}
-use Rattle.table_places.specs.ResolvedTable.{Slots, slotted}
+use Rattle.table_places.specs.ResolvedTable.{slot_of, Slots, slotted}
 use Rattle.table_places.specs.DossierTable.{abstract_slots, concrete_slots}
 use Rattle.table_places.specs.DossierTableByNumber.{states_placed}
 use Rattle.search_groups.specs.GroupPromises.{Few}
-use Rattle.search_groups.proofs.ScopePlaces.{slot_of}
 use Rattle.tables.proofs.SlotPlaces.{no_slot, Named, named-slot, into, Slotted, Elements, Below, Off, Out, own, kept, elements-kept, slotted-below}
 use Rattle.tables.proofs.DeclaredPlaces.{Declared, faultless, declared-off, declared-once, declared-ended, declared-used, variables-few, placing-holds}
 use Rattle.tables.proofs.ElementPlaces.{into_givens, givens-hold, givens-at, element-plain, element-letters}

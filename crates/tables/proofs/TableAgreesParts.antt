@@ -29,7 +29,8 @@ use Rattle.table_places.specs.ResolvedTable.{Slots}
 use Rattle.tables.proofs.TableAgreesSizes.{domain_resolved, first-side, second-side, element-side}
 use Rattle.refusals.proofs.FaultLists.{append_nil-both}
 use Rattle.static_rules.proofs.Faultless.{inside-nil, whole-nil}
-use Rattle.lexical.proofs.BooleanTests.{all-parts, all-more, both-true}
+use Rattle.std.proofs.lemmas.Bool.{and_parts}
+use Rattle.lexical.proofs.BooleanTests.{all-parts, all-more}
 use Rattle.static_rules.proofs.SameTypes.{same-type}
 
 -- ---- parts one behind the other: where each begins is told by the lengths of those before ----
@@ -80,11 +81,11 @@ fit-elements : (ts : List (Ty × Ty)) → pairs_fit ts ≡ true → Elements ts
 unfolding pairs_fit
 fit-elements [] e = no-yes e
 fit-elements (t ∷ ts) e =
-    let h = both-true (has t.0 ty.is_element && has t.1 ty.is_element) (all (λ (u : Ty × Ty). same_type t.0 u.0 && same_type t.1 u.1) ts) e in
-    let k = both-true (has t.0 ty.is_element) (has t.1 ty.is_element) h.0 in
+    let h = and_parts (has t.0 ty.is_element && has t.1 ty.is_element) (all (λ (u : Ty × Ty). same_type t.0 u.0 && same_type t.1 u.1) ts) e in
+    let k = and_parts (has t.0 ty.is_element) (has t.1 ty.is_element) h.0 in
     all-more (λ (u : Ty × Ty). has u.1 ty.is_element) t ts k.1
     (all_from (λ (u : Ty × Ty). same_type t.0 u.0 && same_type t.1 u.1) (λ (u : Ty × Ty). has u.1 ty.is_element)
-    (λ u q. ap (λ (v : Ty). has v ty.is_element) (sym (same-type t.1 u.1 (both-true (same_type t.0 u.0) (same_type t.1 u.1) q).1)) ∙ k.1) ts h.1)
+    (λ u q. ap (λ (v : Ty). has v ty.is_element) (sym (same-type t.1 u.1 (and_parts (same_type t.0 u.0) (same_type t.1 u.1) q).1)) ∙ k.1) ts h.1)
 
 -- ---- no faults in the whole: none in the parts ----
 
@@ -224,8 +225,8 @@ module _ (ρ : Numbering) (P : Letters → Type 0) (ν : Numbered ρ P) (z : Siz
       ((judge_term t Γ i).faults ++ (judge_term u Γ j).faults ++ (judge_term v Γ l).faults) e in
       let h = append_nil-both ((judge_term t Γ i).faults ++ (judge_term u Γ j).faults) (judge_term v Γ l).faults w.0 in
       let n = append_nil-both (judge_term t Γ i).faults (judge_term u Γ j).faults h.0 in
-      let d = both-true (has (judge_term t Γ i).type ty.is_element) (has (judge_term u Γ j).type ty.is_element)
-      (both-true (has (judge_term t Γ i).type ty.is_element && has (judge_term u Γ j).type ty.is_element)
+      let d = and_parts (has (judge_term t Γ i).type ty.is_element) (has (judge_term u Γ j).type ty.is_element)
+      (and_parts (has (judge_term t Γ i).type ty.is_element && has (judge_term u Γ j).type ty.is_element)
       (same_type (ty.pairs_of_types (judge_term t Γ i).type (judge_term u Γ j).type) (judge_term v Γ l).type) w.1).0 in
       three-parts {b = λ (n : ℕ). table.term_table u T W z ρ s n} {b' = λ (n : ℕ). resolved.term_table u Γ W' s n}
       {c = λ (n : ℕ). table.term_table v T W z ρ s n} {c' = λ (n : ℕ). resolved.term_table v Γ W' s n} (λ (n m p : ℕ). node (related_shape o) n m p) q

@@ -14,7 +14,8 @@ use Rattle.form.specs.Codes.{Numbering, number_of_name, abstractly_at, pred_widt
 use Rattle.static_rules.specs.Scope.{operation_contexts}
 use Rattle.type_rules.specs.TypesByNumber.{Names, Sizes}
 use Rattle.declared_names.specs.NamesByNumber.{Typed, typed_codes, variables_of, parameters_of, shown, hidden, state_named, reaching, leaving, title_named, parameters_shown, operation_named, conditions_named}
-use Rattle.declared_names.specs.PassPromises.{ShownSeen, HiddenSeen, PartOf, Variables}
+use Rattle.parser.specs.Sections.{PartOf}
+use Rattle.declared_names.specs.PassPromises.{ShownSeen, HiddenSeen, Variables}
 use Rattle.names.proofs.PassSteps.{variables-codes, parameters-codes}
 use Rattle.node_spans.specs.Spans.{span, OperationAt, OperationsAt, no_more, one_more}
 use Rattle.table_nodes.specs.declared.Made.{Made}
@@ -23,7 +24,7 @@ use Rattle.table_nodes.specs.TableWalkPromises.{patch, PredMade}
 use Rattle.table_places.specs.DossierTable.{operation_starts}
 use Rattle.table_places.specs.DossierTableByNumber.{operation_kinds, operation_places, with_tables}
 use Rattle.table_places.specs.TablePromises.{ParametersSet, written, PredicateSet, StateSet, with_conditions, ConditionsSet, SideSet, abstract_kinds, concrete_kinds, placed_in, with_operation, OperationStands, OperationSet, TitlesAt, no_titles, one_title, tables_from, OperationsSet}
-use Rattle.table_places.proofs.WritingTypes.{part-stands}
+use Rattle.node_spans.proofs.StandingParts.{part-stands}
 
 -- a predicate
 pub predicate-set : (nodes : List ℕ) (end : ℕ) (T U : Names) (W Y : Places) (z : Sizes) (out after : List ℕ) (r : Made) → PredMade nodes end 38 T U W Y z out after r

@@ -8,10 +8,9 @@ use form::name_endings::{PLAIN, PRIMED};
 use form::node;
 use lowering::Reading;
 use lowering::walk::pred;
-use names::passes::{States, part};
 use names::{NAMES, SIZES};
 use node_spans::{OperationSpans, Parts, span};
-use parser::sections::Bounds;
+use parser::sections::{Bounds, States, between};
 use table_nodes::slots;
 use table_places::declared_types::{Declarations, set_declared};
 use table_places::places::{place_all, place_parameters};
@@ -54,10 +53,8 @@ fn set_state(s: &Source<'_, '_>, k: usize, names: &mut [Kind], places: &mut [u16
     requires { (k < 80) × TableRoom s.now.parts.nodes.now out.old }
     ensures { StateSet s.now.parts.nodes.now (span s.now.parts.spans.now k) (span s.now.parts.spans.now (k + 1)) (span s.now.parts.spans.now (k + 2)) names.old names.new places.old places.new s.now.sizes.now out.old out.new }
 {
-    let first = s.parts.span(k);
-    let last = s.parts.span(k + span::STATE_LAST);
     let end = s.parts.span(k + span::STATE_END);
-    let variables = part(s.parts.nodes, first, last);
+    let variables = s.parts.variables(k);
     show(variables, PLAIN, names);
     set_predicate(s, end, names, places, out);
     hide(variables, PLAIN, USED, names);
@@ -73,6 +70,7 @@ fn set_states(s: &Source<'_, '_>, names: &mut [Kind], places: &mut [u16], out: &
 }
 
 // ainit, cinit, retrieve.
+// Form 2: `conditions` of names makes the same six calls of `show` and `hide` around another pass; one function for both would take that pass as a closure, as at `set_side`.
 fn set_conditions(s: &Source<'_, '_>, names: &mut [Kind], places: &mut [u16], out: &mut [u16])
     requires { TableRoom s.now.parts.nodes.now out.old }
     ensures { ConditionsSet s.now.parts.nodes.now s.now.states.abstracts.now s.now.states.concretes.now (span s.now.parts.spans.now 6) (span s.now.parts.spans.now 7) (span s.now.parts.spans.now 8) names.old names.new places.old places.new s.now.sizes.now out.old out.new }
@@ -128,7 +126,7 @@ fn set_operation(
     ensures { OperationSet s.now.parts.nodes.now s.now.states.abstracts.now s.now.states.concretes.now o.now.first o.now.last o.now.middle o.now.end names.old names.new places.old places.new s.now.sizes.now out.old out.new }
 {
     put(names, title_at(s.parts.nodes, o.first), USED);
-    let parameters = part(s.parts.nodes, o.first, o.last);
+    let parameters = s.parts.parameters(o);
     show(parameters, PLAIN, names);
     place_parameters(parameters, places);
     set_side(s, o.middle, s.states.abstracts, names, places, out);
@@ -156,8 +154,6 @@ fn set_contexts(s: &Source<'_, '_>, names: &mut [Kind], places: &mut [u16], out:
     set_operations(s, names, places, out);
 }
 
-// Form 2: `measures` of limits makes the same `States`: `Parts` is of node_spans and `States` of names, which do not use each other, and the lowest crate that
-// has both, binding_counts, has nothing else to do with tables.
 fn set_table(
     p: &Parts<'_>,
     at: &Bounds,
@@ -175,19 +171,8 @@ fn set_table(
         spans: p.spans,
         operations: p.operations.min(span::MOST),
     };
-    let gs = part(p.nodes, at.givens, at.abstracts);
-    let states = States {
-        abstracts: part(
-            p.nodes,
-            p.span(span::ABSTRACT_FIRST),
-            p.span(span::ABSTRACT_LAST),
-        ),
-        concretes: part(
-            p.nodes,
-            p.span(span::CONCRETE_FIRST),
-            p.span(span::CONCRETE_LAST),
-        ),
-    };
+    let gs = between(p.nodes, at.givens, at.abstracts);
+    let states = p.states();
     place_all(gs, states.abstracts, states.concretes, places);
     let spans = p.spans;
     let declared = Declarations {

@@ -1,14 +1,15 @@
 -- What a walk for sizes has seen of the nodes that end in one list it has seen of the same nodes in another.
+-- Form 8: FrontNodes of typing, over records of sizes: a law over any record would be handed how to take one apart and how to make one, which is all that each of these says.
 use mathlib.Core.Path.{◌≡◌, ◌∙◌}
 use mathlib.Core.List.{List}
-use Prim.Native.Nat.{ℕ, ◌+◌, ◌-◌, ◌≤◌}
+use Prim.Native.Nat.{ℕ, ◌+◌}
 use native.Mathlib.Nat.{le_trans}
 use lib.ListN.{length, take, get_or}
 use Rattle.type_rules.specs.declared.Node.{Node}
 use Rattle.type_rules.specs.TypesByNumber.{NodeAt}
 use Rattle.typing.specs.EndedNodes.{ended}
-use Rattle.typing.proofs.FrontNodes.{whole, Ending}
-pub use Rattle.typing.proofs.FrontNodes.{front}
+use Rattle.typing.proofs.FrontNodes.{LastAt, whole, Ending}
+pub use Rattle.typing.proofs.FrontNodes.{LastAt, front}
 use Rattle.term_sizes.specs.declared.Sized.{Sized}
 use Rattle.term_sizes.specs.declared.sizes.Over.{Over}
 use Rattle.term_sizes.specs.SizesByNumber.{Bounds}
@@ -35,10 +36,10 @@ pairs-at h s = record { falls = le_trans s.falls h.less; kept = s.kept; right = 
 pub pred-at : {x y : List ℕ} {e m : ℕ} {S U : Bounds} {r : Sized} → Ending x e y m → PredSized x e S U r → PredSized y m S U r
 pred-at h s = record { falls = le_trans s.falls h.less; kept = s.kept; right = λ p i ρ base q. s.right p i ρ base (h.same ∙ q) }
 
-pub term-whole : {code : List ℕ} {k : ℕ} {n : Node} {S U : Bounds} {r : Sized} → 4 ≤ length code → NodeAt code (length code) n → get_or code (length code - 4 + 3) 0 ≡ k
-    → TermSized (ended (take (length code - 4) code) k n) (length (take (length code - 4) code) + 4) S U r → TermSized code (length code) S U r
+pub term-whole : {code : List ℕ} {m k : ℕ} {n : Node} {S U : Bounds} {r : Sized} → LastAt code m → NodeAt code (length code) n → get_or code (m + 3) 0 ≡ k
+    → TermSized (ended (take m code) k n) (length (take m code) + 4) S U r → TermSized code (length code) S U r
 term-whole {S = S} {U = U} {r = r} = whole (λ (x : List ℕ) (e : ℕ). TermSized x e S U r)
 
-pub pred-whole : {code : List ℕ} {k : ℕ} {n : Node} {S U : Bounds} {r : Sized} → 4 ≤ length code → NodeAt code (length code) n → get_or code (length code - 4 + 3) 0 ≡ k
-    → PredSized (ended (take (length code - 4) code) k n) (length (take (length code - 4) code) + 4) S U r → PredSized code (length code) S U r
+pub pred-whole : {code : List ℕ} {m k : ℕ} {n : Node} {S U : Bounds} {r : Sized} → LastAt code m → NodeAt code (length code) n → get_or code (m + 3) 0 ≡ k
+    → PredSized (ended (take m code) k n) (length (take m code) + 4) S U r → PredSized code (length code) S U r
 pred-whole {S = S} {U = U} {r = r} = whole (λ (x : List ℕ) (e : ℕ). PredSized x e S U r)

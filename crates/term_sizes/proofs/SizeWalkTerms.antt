@@ -13,6 +13,7 @@ use Rattle.form.specs.Written.{prefix_kind, operator_kind}
 use Rattle.form.specs.Codes.{node, Numbering, name_number, number_of_name, end_number, end_width, sign_of, division_number, term_width, domain_codes, term_codes, items_codes, pairs_codes, pred_codes}
 use Rattle.type_rules.specs.declared.Node.{Node}
 use Rattle.type_rules.specs.TypesByNumber.{fault_key, entry, key, lesser, judged_key, NodeAt}
+use Rattle.typing.proofs.FrontNodes.{EndsIn}
 use Rattle.typing.proofs.LastNodes.{last-node, one-part, two-parts, three-parts, middle}
 use Rattle.typing.proofs.TypeWalkTerms.{restored}
 use Rattle.term_sizes.specs.declared.Sized.{Sized}
@@ -46,21 +47,6 @@ module _ (code : List ℕ) (e : ℕ) (l : e ≤ length code) where
           (mq ∙ ap₂ max (aq ∙ ap absolute (hn.first_is ∙ h.is_first)) (bq ∙ ap absolute (hn.second_is ∙ h.is_second)), s ∙ sym h.long)
 
 module _ (code : List ℕ) (e : ℕ) (l : e ≤ length code) (S : Bounds) where
-  pub term-number : (n : Node) (r : Sized) → NodeAt code e n → get_or code (e - 4 + 3) 0 ≡ 1 → r.bound ≡ n.a
-      → fault_key r.fault ≡ 0 → r.start ≡ e - 4 → TermSized code e S S r
-  unfolding term_codes term_bound term_over
-  term-number n r hn q p f s = term-from code e l S 1 S r (omega arith) refl q
-      (λ v i ρ base y.
-      let h = last-node code e l base 1 i v 0 y in record { fault_is = f; bound_is = λ z. p ∙ hn.first_is ∙ h.is_first; start_is = s ∙ sym h.long })
-
-  pub term-name : (n : Node) (r : Sized) (x : ℕ) → NodeAt code e n → get_or code (e - 4 + 3) 0 ≡ 2 → x ≡ n.a → r.bound ≡ entry S x
-      → fault_key r.fault ≡ 0 → r.start ≡ e - 4 → TermSized code e S S r
-  unfolding term_codes term_bound term_over
-  term-name n r x hn q xq p f s = term-from code e l S 2 S r (omega arith) refl q
-      (λ g i ρ base y.
-      let h = last-node code e l base 2 i (name_number ρ g) 0 y in
-      record { fault_is = f; bound_is = λ z. p ∙ ap (entry S) (xq ∙ hn.first_is ∙ h.is_first); start_is = s ∙ sym h.long })
-
   -- empty G, empty G H
   pub term-empty : (r : Sized) → 9 ≤ get_or code (e - 4 + 3) 0 → get_or code (e - 4 + 3) 0 ≤ 10 → (r.bound ≡ 0) × (fault_key r.fault ≡ 0) × (r.start ≡ e - 4) → TermSized code e S S r
   unfolding term_codes term_bound term_over
@@ -70,54 +56,6 @@ module _ (code : List ℕ) (e : ℕ) (l : e ≤ length code) (S : Bounds) where
       (λ q. term-from code e l S 10 S r (let f = s.2 in omega arith) refl q
       (λ g g' i ρ base y.
       let h = last-node code e l base 10 i (name_number ρ g) (name_number ρ g') y in record { fault_is = s.1; bound_is = λ z. s.0; start_is = s.2 ∙ sym h.long }))
-
-  pub term-prefix : (U : Bounds) (n : Node) (v r : Sized) → NodeAt code e n → get_or code (e - 4 + 3) 0 ≡ 3 → TermSized code (e - 4) S U v
-      → PrefixBound n.a v.bound r.bound → fault_key r.fault ≡ fault_key v.fault → r.start ≡ v.start → TermSized code e S U r
-  unfolding term_codes term_bound term_over
-  term-prefix U n v r hn q hv bq fq sq = term-from code e l S 3 U r (let f = hv.falls in omega arith) hv.kept q
-      (λ o t i ρ base y.
-      let h = one-part code e l base (term_codes t (suc i) ρ) 3 i (code_of (prefix_kind o)) 0 y in
-      let s = hv.right t (suc i) ρ base h.before in
-      record { fault_is = fq ∙ s.fault_is; bound_is = λ z. bq o (sym (hn.first_is ∙ h.is_first)) ∙ ap (prefix_bound o) (s.bound_is z); start_is = sq ∙ s.start_is })
-
-  pub term-divided : (U : Bounds) (n : Node) (v r : Sized) → NodeAt code e n → get_or code (e - 4 + 3) 0 ≡ 4 → TermSized code (e - 4) S U v
-      → DivisionBound n.b n.a v.bound r.bound → fault_key r.fault ≡ fault_key v.fault → r.start ≡ v.start → TermSized code e S U r
-  unfolding term_codes term_bound term_over
-  term-divided U n v r hn q hv bq fq sq = term-from code e l S 4 U r (let f = hv.falls in omega arith) hv.kept q
-      (λ o t d i ρ base y.
-      let h = one-part code e l base (term_codes t i ρ) 4 (i + term_width t) d.magnitude (sign_of d.negative + division_number o) y in
-      let s = hv.right t i ρ base h.before in
-      record {
-        fault_is = fq ∙ s.fault_is;
-        bound_is = λ z. bq o d.negative (sym (hn.second_is ∙ h.is_second)) ∙ ap₂ (division_bound o) (s.bound_is z) (hn.first_is ∙ h.is_first);
-        start_is = sq ∙ s.start_is;
-      })
-
-  -- t and u, with an operator between them
-  pub term-binary : (U W : Bounds) (n : Node) (v u r : Sized) (m g : ℕ) → NodeAt code e n → get_or code (e - 4 + 3) 0 ≡ 5
-      → TermSized code (e - 4) S U u → TermSized code u.start U W v
-      → OperatorBound n.a v.bound u.bound m → g ≡ lesser (fault_key v.fault) (fault_key u.fault)
-      → fault_key r.fault ≡ judged_key (leb m 2147483647) (key n.place 13) g → r.bound ≡ min m 2147483647 → r.start ≡ v.start
-      → TermSized code e S W r
-  unfolding term_codes term_bound term_over
-  term-binary U W n v u r m g hn q hu hv₀ mq gq fq bq sq =
-      let hv : TermSized code u.start S W v = subst (λ (X : Bounds). TermSized code u.start X W v) hu.kept hv₀ in
-      term-from code e l S 5 W r (let f = hu.falls in let g = hv.falls in omega arith) hv.kept q
-      (λ o t₁ t₂ i ρ base y.
-      let j : ℕ = suc (i + term_width t₁) in
-      let h = two-parts code e l base (term_codes t₁ i ρ) (term_codes t₂ j ρ) 5 (i + term_width t₁) (code_of (operator_kind o)) 0 y in
-      let s₂ = hu.right t₂ j ρ (base ++ term_codes t₁ i ρ) h.before in
-      let s₁ = hv.right t₁ i ρ base (middle code (e - 4) u.start (base ++ term_codes t₁ i ρ) (term_codes t₂ j ρ) h.before hu.falls s₂.start_is) in
-      let k : ℕ = operator_bound o (term_bound t₁ S ρ) (term_bound t₂ S ρ) in
-      let parts : ℕ = lesser (term_over t₁ S ρ i) (term_over t₂ S ρ j) in
-      let size : parts ≡ 0 → m ≡ k =
-      λ z. let w = lesser-none (term_over t₁ S ρ i) (term_over t₂ S ρ j) z in
-      mq o (sym (hn.first_is ∙ h.is_first)) ∙ ap₂ (operator_bound o) (s₁.bound_is w.0) (s₂.bound_is w.1) in
-      record {
-        fault_is = fq ∙ over-seen m k n.place (i + term_width t₁) g parts (hn.place_is ∙ h.is_place) (gq ∙ ap₂ lesser s₁.fault_is s₂.fault_is) size;
-        bound_is = λ z. let w = over_none k (i + term_width t₁) parts z in bq ∙ ap (λ (x : ℕ). min x 2147483647) (size w.0) ∙ min-eq_left w.1;
-        start_is = sq ∙ s₁.start_is;
-      })
 
   -- a name bound for a predicate, and what it was behind it
   pub bound-sized : (U₁ U₂ U₃ : Bounds) (n : Node) (d : Over) (p : Sized) (x old : ℕ) → DomainSized code e d → PredSized code d.start U₁ U₂ p
@@ -219,3 +157,68 @@ module _ (code : List ℕ) (e : ℕ) (l : e ≤ length code) (S : Bounds) where
           let s₂ = hu.right ts (suc (j + term_width t₂)) ρ ((base ++ term_codes t₁ i ρ) ++ term_codes t₂ j ρ) h.before in
           let s₁ = hv.right t₁ t₂ i j ρ base (middle code (e - 4) u.start ((base ++ term_codes t₁ i ρ) ++ term_codes t₂ j ρ) (pairs_codes ts (suc (j + term_width t₂)) ρ) h.before hu.falls s₂.start_is) in
           record { fault_is = fq ∙ ap₂ lesser s₁.fault_is s₂.fault_is; bound_is = λ z. bq; start_is = sq ∙ s₁.start_is }
+
+-- the laws of trees whose last node has others in front
+module _ {code : List ℕ} {e : ℕ} {n : Node} (S : Bounds) where
+  pub term-number : (r : Sized) → EndsIn code e 1 n → r.bound ≡ n.a
+      → fault_key r.fault ≡ 0 → r.start ≡ e - 4 → TermSized code e S S r
+  unfolding term_codes term_bound term_over
+  term-number r en p f s = term-from code e en.fits S 1 S r (omega arith) refl en.shape
+      (λ v i ρ base y.
+      let h = last-node code e en.fits base 1 i v 0 y in record { fault_is = f; bound_is = λ z. p ∙ en.node.first_is ∙ h.is_first; start_is = s ∙ sym h.long })
+
+  pub term-name : (r : Sized) (x : ℕ) → EndsIn code e 2 n → x ≡ n.a → r.bound ≡ entry S x
+      → fault_key r.fault ≡ 0 → r.start ≡ e - 4 → TermSized code e S S r
+  unfolding term_codes term_bound term_over
+  term-name r x en xq p f s = term-from code e en.fits S 2 S r (omega arith) refl en.shape
+      (λ g i ρ base y.
+      let h = last-node code e en.fits base 2 i (name_number ρ g) 0 y in
+      record { fault_is = f; bound_is = λ z. p ∙ ap (entry S) (xq ∙ en.node.first_is ∙ h.is_first); start_is = s ∙ sym h.long })
+
+  pub term-prefix : (U : Bounds) (v r : Sized) → EndsIn code e 3 n → TermSized code (e - 4) S U v
+      → PrefixBound n.a v.bound r.bound → fault_key r.fault ≡ fault_key v.fault → r.start ≡ v.start → TermSized code e S U r
+  unfolding term_codes term_bound term_over
+  term-prefix U v r en hv bq fq sq = term-from code e en.fits S 3 U r (let f = hv.falls in omega arith) hv.kept en.shape
+      (λ o t i ρ base y.
+      let h = one-part code e en.fits base (term_codes t (suc i) ρ) 3 i (code_of (prefix_kind o)) 0 y in
+      let s = hv.right t (suc i) ρ base h.before in
+      record { fault_is = fq ∙ s.fault_is; bound_is = λ z. bq o (sym (en.node.first_is ∙ h.is_first)) ∙ ap (prefix_bound o) (s.bound_is z); start_is = sq ∙ s.start_is })
+
+  pub term-divided : (U : Bounds) (v r : Sized) → EndsIn code e 4 n → TermSized code (e - 4) S U v
+      → DivisionBound n.b n.a v.bound r.bound → fault_key r.fault ≡ fault_key v.fault → r.start ≡ v.start → TermSized code e S U r
+  unfolding term_codes term_bound term_over
+  term-divided U v r en hv bq fq sq = term-from code e en.fits S 4 U r (let f = hv.falls in omega arith) hv.kept en.shape
+      (λ o t d i ρ base y.
+      let h = one-part code e en.fits base (term_codes t i ρ) 4 (i + term_width t) d.magnitude (sign_of d.negative + division_number o) y in
+      let s = hv.right t i ρ base h.before in
+      record {
+        fault_is = fq ∙ s.fault_is;
+        bound_is = λ z. bq o d.negative (sym (en.node.second_is ∙ h.is_second)) ∙ ap₂ (division_bound o) (s.bound_is z) (en.node.first_is ∙ h.is_first);
+        start_is = sq ∙ s.start_is;
+      })
+
+  -- t and u, with an operator between them
+  pub term-binary : (U W : Bounds) (v u r : Sized) (m g : ℕ) → EndsIn code e 5 n
+      → TermSized code (e - 4) S U u → TermSized code u.start U W v
+      → OperatorBound n.a v.bound u.bound m → g ≡ lesser (fault_key v.fault) (fault_key u.fault)
+      → fault_key r.fault ≡ judged_key (leb m 2147483647) (key n.place 13) g → r.bound ≡ min m 2147483647 → r.start ≡ v.start
+      → TermSized code e S W r
+  unfolding term_codes term_bound term_over
+  term-binary U W v u r m g en hu hv₀ mq gq fq bq sq =
+      let hv : TermSized code u.start S W v = subst (λ (X : Bounds). TermSized code u.start X W v) hu.kept hv₀ in
+      term-from code e en.fits S 5 W r (let f = hu.falls in let g = hv.falls in omega arith) hv.kept en.shape
+      (λ o t₁ t₂ i ρ base y.
+      let j : ℕ = suc (i + term_width t₁) in
+      let h = two-parts code e en.fits base (term_codes t₁ i ρ) (term_codes t₂ j ρ) 5 (i + term_width t₁) (code_of (operator_kind o)) 0 y in
+      let s₂ = hu.right t₂ j ρ (base ++ term_codes t₁ i ρ) h.before in
+      let s₁ = hv.right t₁ i ρ base (middle code (e - 4) u.start (base ++ term_codes t₁ i ρ) (term_codes t₂ j ρ) h.before hu.falls s₂.start_is) in
+      let k : ℕ = operator_bound o (term_bound t₁ S ρ) (term_bound t₂ S ρ) in
+      let parts : ℕ = lesser (term_over t₁ S ρ i) (term_over t₂ S ρ j) in
+      let size : parts ≡ 0 → m ≡ k =
+      λ z. let w = lesser-none (term_over t₁ S ρ i) (term_over t₂ S ρ j) z in
+      mq o (sym (en.node.first_is ∙ h.is_first)) ∙ ap₂ (operator_bound o) (s₁.bound_is w.0) (s₂.bound_is w.1) in
+      record {
+        fault_is = fq ∙ over-seen m k n.place (i + term_width t₁) g parts (en.node.place_is ∙ h.is_place) (gq ∙ ap₂ lesser s₁.fault_is s₂.fault_is) size;
+        bound_is = λ z. let w = over_none k (i + term_width t₁) parts z in bq ∙ ap (λ (x : ℕ). min x 2147483647) (size w.0) ∙ min-eq_left w.1;
+        start_is = sq ∙ s₁.start_is;
+      })

@@ -89,10 +89,9 @@ struct Over {
 fn domain(code: &[u16]) -> Over
     ensures { DomainSized code.now (length code.now) result }
 {
-    if code.len() < node::SIZE {
+    let Some(start) = code.len().checked_sub(node::SIZE) else {
         return Over { bound: 0, start: 0 };
-    }
-    let start = code.len() - node::SIZE;
+    };
     let n = last_node(code);
     if code[start + node::SHAPE] == shapes::SET {
         return Over { bound: 0, start };
@@ -110,10 +109,9 @@ fn domain(code: &[u16]) -> Over
 fn term(code: &[u16], bounds: &mut [u16]) -> Sized
     ensures { TermSized code.now (length code.now) bounds.old bounds.new result }
 {
-    if code.len() < node::SIZE {
+    let Some(at) = code.len().checked_sub(node::SIZE) else {
         return bare(0);
-    }
-    let at = code.len() - node::SIZE;
+    };
     let front = &code[..at];
     let n = last_node(code);
     match code[at + node::SHAPE] {
@@ -214,10 +212,9 @@ fn bound(front: &[u16], n: Node, bounds: &mut [u16]) -> Sized
 fn items(code: &[u16], bounds: &mut [u16]) -> Sized
     ensures { ItemsSized code.now (length code.now) bounds.old bounds.new result }
 {
-    if code.len() < node::SIZE {
+    let Some(at) = code.len().checked_sub(node::SIZE) else {
         return bare(0);
-    }
-    let at = code.len() - node::SIZE;
+    };
     if code[at + node::SHAPE] == shapes::LAST {
         return Sized {
             bound: 0,
@@ -236,10 +233,9 @@ fn items(code: &[u16], bounds: &mut [u16]) -> Sized
 fn pairs(code: &[u16], bounds: &mut [u16]) -> Sized
     ensures { PairsSized code.now (length code.now) bounds.old bounds.new result }
 {
-    if code.len() < node::SIZE {
+    let Some(at) = code.len().checked_sub(node::SIZE) else {
         return bare(0);
-    }
-    let at = code.len() - node::SIZE;
+    };
     if code[at + node::SHAPE] == shapes::LAST {
         return pair(&code[..at], bounds);
     }
@@ -259,14 +255,15 @@ fn pair(code: &[u16], bounds: &mut [u16]) -> Sized
 }
 
 // The predicate whose nodes are the last.
+// Form 1: a predicate has no size, and its bound says nothing. `bare`, `both`, `pair` and `bound` answer for predicates as for terms that are no number; with a struct of fault and
+// start alone for predicates each of the four would stand twice, or its answer be made into the other at its calls.
 #[cycle(sizes)]
 pub fn pred(code: &[u16], bounds: &mut [u16]) -> Sized
     ensures { PredSized code.now (length code.now) bounds.old bounds.new result }
 {
-    if code.len() < node::SIZE {
+    let Some(at) = code.len().checked_sub(node::SIZE) else {
         return bare(0);
-    }
-    let at = code.len() - node::SIZE;
+    };
     let front = &code[..at];
     let n = last_node(code);
     match code[at + node::SHAPE] {

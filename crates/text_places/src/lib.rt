@@ -9,7 +9,10 @@ use lexical::marks::mark_of;
 use lexical::words::ending_of;
 use lexical::{Ending, Token};
 
-const NEWLINE: u8 = b'\n';
+// The bytes that part symbols.
+pub const SPACE: u8 = b' ';
+
+pub const NEWLINE: u8 = b'\n';
 
 // The number of the first line, and of the first column.
 const FIRST: usize = 1;
@@ -18,10 +21,11 @@ const FIRST: usize = 1;
 pub fn is_blank(b: u8) -> bool
     ensures { result ≡ (b == 32 || b == 10) }
 {
-    b == b' ' || b == NEWLINE
+    b == SPACE || b == NEWLINE
 }
 
 // The bytes of a text, or its symbols, from `from` up to `to`.
+// Form 4: no `Range<usize>`, which is not Copy: `Trial` and `say_left` of refusal_sides and `trimmed` of conjunct_texts use a span again that they have handed on.
 #[derive(Clone, Copy)]
 pub struct Span {
     pub from: usize,
@@ -54,10 +58,10 @@ pub fn line_of(text: &[u8], p: usize) -> usize
 pub fn line_start(text: &[u8], p: usize) -> usize
     ensures { LineStart text.now p result }
 {
-    match before(text, p).iter().rposition(|b| *b == NEWLINE) {
-        Some(k) => k + 1,
-        None => 0,
-    }
+    before(text, p)
+        .iter()
+        .rposition(|b| *b == NEWLINE)
+        .map_or(0, |k| k + 1)
 }
 
 // The column of a byte.
@@ -67,11 +71,9 @@ pub fn column_of(text: &[u8], p: usize) -> usize {
 
 // How many bytes the mark has that three bytes begin with; a byte that begins none is shown alone.
 fn mark_length(a: u8, b: u8, e: u8) -> usize {
-    let token = mark_of(a, b, e);
-    match token {
+    match mark_of(a, b, e) {
         Token::Listed(_, n, _) => n,
-        Token::Gap => 1,
-        Token::Unlisted => 1,
+        Token::Gap | Token::Unlisted => 1,
     }
 }
 
@@ -92,6 +94,17 @@ pub fn symbol_end(text: &[u8], p: usize) -> usize
         return end;
     }
     end.saturating_add(1)
+}
+
+// The bytes of the symbol that begins at a byte.
+pub fn symbol_at(text: &[u8], p: usize) -> Span
+    ensures begins { result.from ≡ p }
+    ensures ends { p ≤ result.to }
+{
+    Span {
+        from: p,
+        to: symbol_end(text, p),
+    }
 }
 
 // Behind the last letter or digit of the run that begins at a byte.

@@ -1,2 +1,3 @@
+pub mod ReadTexts
 pub mod TextLaws
 pub mod LentArrays

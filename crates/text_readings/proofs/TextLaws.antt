@@ -23,10 +23,7 @@ use Rattle.labels.proofs.ReadingsReadReadings.{read-reading}
 use Rattle.labels.proofs.ReadLabels.{read-labels}
 use Rattle.labels.proofs.SpeltNames.{spelt}
 use Rattle.text_readings.specs.TextPromises.{Held, ReadAs, ReadsText, Counted, Gathered}
-
-abbrev IsRefusal : definition.Reading → Type 0
-IsRefusal (refusal f) = Unit {0}
-IsRefusal (reading d) = ⊥
+use Rattle.text_readings.proofs.ReadTexts.{IsRefusal}
 
 passed : (a b c : Option Fault) (x d : Dossier) → pass a (pass b (pass c (reading x))) ≡ reading d → x ≡ d
 passed (some f) b c x d e = absurd (subst IsRefusal e tt)

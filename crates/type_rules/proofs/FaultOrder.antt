@@ -1,6 +1,6 @@
 -- Faults and the numbers that specs/TypesByNumber gives them: the derived order is that of the numbers, and no two faults have one number.
 use mathlib.Core.Path.{◌≡◌, refl, sym, ap, ap₂, ◌∙◌, subst}
-use mathlib.Core.Bool.{Bool, true, false, cond}
+use mathlib.Core.Bool.{Bool, true, false, cond, beq}
 use mathlib.Core.List.{List, [], ◌∷◌}
 use mathlib.Core.Option as options
 use mathlib.Core.Option.{none, some}
@@ -16,6 +16,7 @@ use Rattle.std.specs.Ordering.{MatchOrdering, is_lt, ord_min, ordering_then}
 use Rattle.std.specs.Cmp.{ranks}
 use Rattle.std.specs.List.{list_all}
 use Rattle.std.proofs.lemmas.List.Folds.{list_all_at}
+use Rattle.form.proofs.LexicalBooleanTests.{beq-true}
 use Rattle.refusals.specs.Refusals as definition
 use Rattle.refusals.specs.Refusals.{number_of}
 use Rattle.refusals.specs.RefusalNames.{refusal_is}
@@ -75,25 +76,14 @@ of_all p h r = subst (λ (s : Refusal). p s ≡ true) (listed r).is (on (p (get_
     on true q = q
     on false q = let z : false ≡ true = sym (list_all_at p all_refusals (listed r).at LongText (listed r).inside q) ∙ h in cc
 
-same : Bool → Bool → Bool
-same true b = b
-same false b = cond b false true
-
-same-true : (a b : Bool) → same a b ≡ true → a ≡ b
-unfolding same
-same-true true true h = refl
-same-true true false h = sym h
-same-true false true h = h
-same-true false false h = refl
-
 -- ---- the derived order of refusals is that of their numbers ----
 
 in-order : (r s : Refusal) → is_lt (RefusalOrder.cmp-value.it r s) ≡ ltb (number r) (number s)
-unfolding all_refusals number number_of same
+unfolding all_refusals number number_of
 in-order r s =
-    same-true _ _
-    (of_all (λ (y : Refusal). same (is_lt (RefusalOrder.cmp-value.it r y)) (ltb (number r) (number y)))
-    (of_all (λ (x : Refusal). list_all (λ (y : Refusal). same (is_lt (RefusalOrder.cmp-value.it x y)) (ltb (number x) (number y))) all_refusals) refl r) s)
+    beq-true _ _
+    (of_all (λ (y : Refusal). beq (is_lt (RefusalOrder.cmp-value.it r y)) (ltb (number r) (number y)))
+    (of_all (λ (x : Refusal). list_all (λ (y : Refusal). beq (is_lt (RefusalOrder.cmp-value.it x y)) (ltb (number x) (number y))) all_refusals) refl r) s)
 
 -- ---- faults by their keys ----
 

@@ -6,7 +6,8 @@ use native.Mathlib.Omega.{arith}
 use native.Mathlib.Nat.{mul-le-mul}
 use lib.Dec.{eqb, leb, ltb}
 use borrow.Author.Tests.{leb-true, ltb-true, eq-eqb, ne_eqb}
-use Rattle.form.proofs.LexicalBooleanTests.{and_both, and_left, and_right}
+use Rattle.std.proofs.lemmas.Bool.{and_from}
+use Rattle.form.proofs.LexicalBooleanTests.{and_left, and_right}
 use Rattle.std.specs.Prelude.{Some, None}
 use Rattle.std.specs.Bool.{then_some}
 use Rattle.lexical.specs.Kinds.{code_of}
@@ -78,7 +79,7 @@ over-fault z k l i g h m n r f p q mq nq fq rq =
     let u : (is_given k ≡ true) × (g ≡ k - 8) = some-of (is_given k) (k - 8) g p in
     let v : (is_given l ≡ true) × (h ≡ l - 8) = some-of (is_given l) (l - 8) h q in
     rq ∙ ap (λ (t : Bool). unless_key t (key i 11)) (fq ∙ ap₂ (λ (x y : ℕ). product_fits z x y) (mq ∙ u.1) (nq ∙ v.1))
-    ∙ sym (cond_yes (is_given k && is_given l) (is_given k && is_given l) (unless_key (product_fits z (k - 8) (l - 8)) (key i 11)) 0 refl (and_both u.0 v.0))
+    ∙ sym (cond_yes (is_given k && is_given l) (is_given k && is_given l) (unless_key (product_fits z (k - 8) (l - 8)) (key i 11)) 0 refl (and_from _ _ u.0 v.0))
 
 pub no-first : (z : Sizes) (k l i : ℕ) → given_in k ≡ None → 0 ≡ over_key z k l i
 unfolding over_key
@@ -112,11 +113,12 @@ pub binder : (i old over w u b : ℕ) → w ≡ i → u ≡ unless_key (is_free 
     → b ≡ lesser (unless_key (is_free old) (key (i + 1) 8)) over
 binder i old over w u b p q r = r ∙ ap (λ (x : ℕ). lesser x over) (q ∙ ap (λ (n : ℕ). unless_key (is_free old) (key (n + 1) 8)) p)
 
-pub inside-none : (b c body : ℕ) → b ≡ c → b ≡ 0 → body ≡ inside_key c body
-inside-none b c body e h = sym (ap (λ (t : Bool). cond t body c) (eq-eqb c 0 (sym e ∙ h)))
+-- the fault of a whole whose first part has one; and where that has none
+pub inside-none : {b c body : ℕ} → b ≡ c → b ≡ 0 → body ≡ inside_key c body
+inside-none {c = c} {body = body} e h = sym (ap (λ (t : Bool). cond t body c) (eq-eqb c 0 (sym e ∙ h)))
 
-pub inside-some : (b c body : ℕ) → b ≡ c → (b ≡ 0 → ⊥) → b ≡ inside_key c body
-inside-some b c body e h = e ∙ sym (ap (λ (t : Bool). cond t body c) (ne_eqb c 0 (λ q. h (e ∙ q))))
+pub inside-some : {b c : ℕ} (body : ℕ) → b ≡ c → (b ≡ 0 → ⊥) → b ≡ inside_key c body
+inside-some {c = c} body e h = e ∙ sym (ap (λ (t : Bool). cond t body c) (ne_eqb c 0 (λ q. h (e ∙ q))))
 
 -- prefixes, operators and comparisons by the codes of their symbols
 pub negate-fits : (o k : ℕ) → o ≡ 29 → (p : Prefix) → code_of (prefix_kind p) ≡ o → is_number k ≡ prefix_fits p k

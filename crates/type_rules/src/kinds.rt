@@ -20,7 +20,7 @@ pub fn entry(names: &[Kind], x: usize) -> Kind
 }
 
 // The number at a place.
-// Form 1: behind the end it is 0, as FREE is what `entry` answers there; with an Option each of 37 calls would add `.unwrap_or(0)`.
+// Form 1: behind the end it is 0, as FREE is what `entry` answers there; with an Option each of 18 calls would add `.unwrap_or(0)`.
 // Form 2: `at_or` with 0: the 0, which says nothing at any of these calls, stands here once.
 pub fn look(numbers: &[u16], x: usize) -> u16
     ensures { result ≡ get_or numbers.now x 0 }
@@ -28,6 +28,8 @@ pub fn look(numbers: &[u16], x: usize) -> u16
     at_or(numbers, x, 0)
 }
 
+// The entry x becomes k; behind the end of the table nothing does.
+// Form 4: tried by `get_mut`: what the library promises of it says nothing of what the slice ends as, so that `ensures` does not close.
 pub fn put<T: Copy>(table: &mut [T], x: usize, k: T)
     ensures { table.new ≡ set table.old x k }
 {
@@ -59,7 +61,7 @@ pub fn shared_kind(k: Kind, l: Kind) -> Kind
 }
 
 // The fault at a place, unless all is well.
-// Form 7: `ok` is what a rule says; without this function each of its twenty calls would say `(!..).then_some(Fault { .. })` itself.
+// Form 7: `ok` is what a rule says; without this function each of its 18 calls would say `(!..).then_some(Fault { .. })` itself.
 pub fn unless(ok: bool, place: usize, refusal: Refusal) -> Option<Fault>
     ensures { fault_key result ≡ unless_key ok (key place (number_of (refusal_is refusal))) }
 {

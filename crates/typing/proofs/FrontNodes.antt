@@ -24,18 +24,25 @@ front-le x {m = m} {s = s} h = le_trans (subst (λ (n : ℕ). s ≤ n) (length-t
 ended-at : (x : List ℕ) (k : ℕ) (n : Node) (j : ℕ) → get_or (ended x k n) (length x + 4 - 4 + j) 0 ≡ get_or (node k n.place n.a n.b) j 0
 ended-at x k n j = ap (λ (m : ℕ). get_or (ended x k n) m 0) (omega arith) ∙ get_or-append-add x (node k n.place n.a n.b) j 0
 
-pub ended-shape : (x : List ℕ) (k : ℕ) (n : Node) → get_or (ended x k n) (length x + 4 - 4 + 3) 0 ≡ k
-ended-shape x k n = ended-at x k n 3
-
-pub ended-node : (x : List ℕ) (k : ℕ) (n : Node) → NodeAt (ended x k n) (length x + 4) n
+ended-node : (x : List ℕ) (k : ℕ) (n : Node) → NodeAt (ended x k n) (length x + 4) n
 ended-node x k n = record {
   place_is = sym (ended-at x k n 2);
   first_is = sym (ended-at x k n 1);
   second_is = sym (ap (λ (m : ℕ). get_or (ended x k n) m 0) (omega arith) ∙ ended-at x k n 0);
 }
 
-pub ended-fits : (x : List ℕ) (k : ℕ) (n : Node) → length x + 4 ≤ length (ended x k n)
-ended-fits x k n = omega (arith, length-append x (node k n.place n.a n.b))
+-- the node n of the shape k ends at e
+pub record EndsIn (code : List ℕ) (e k : ℕ) (n : Node) : Type 0 where
+  pub fits : e ≤ length code
+  pub node : NodeAt code e n
+  pub shape : get_or code (e - 4 + 3) 0 ≡ k
+
+pub ended-in : (x : List ℕ) (k : ℕ) (n : Node) → EndsIn (ended x k n) (length x + 4) k n
+ended-in x k n = record { fits = omega (arith, length-append x (node k n.place n.a n.b)); node = ended-node x k n; shape = ended-at x k n 3 }
+
+-- the last node of x stands at m
+abbrev pub LastAt : List ℕ → ℕ → Type 0
+LastAt x m = (4 ≤ length x) × (m ≡ length x - 4)
 
 -- nodes are those before the last one, and that one
 one-on : (code : List ℕ) (m j : ℕ) → m < length code → suc m ≡ j → drop m code ≡ get_or code m 0 ∷ drop j code
@@ -48,24 +55,24 @@ last-four code m l =
     (one-on code (m + 2) (m + 3) (omega arith) (omega arith) ∙ ap (λ (y : List ℕ). get_or code (m + 2) 0 ∷ y)
     (one-on code (m + 3) (m + 4) (omega arith) (omega arith) ∙ ap (λ (y : List ℕ). get_or code (m + 3) 0 ∷ y) (drop_of_length-le code (omega arith)))))
 
-pub ended-whole : (code : List ℕ) (k : ℕ) (n : Node) → 4 ≤ length code → NodeAt code (length code) n → get_or code (length code - 4 + 3) 0 ≡ k
-    → ended (take (length code - 4) code) k n ≡ code
-ended-whole code k n l h q =
-    let m : ℕ = length code - 4 in
-    let e₁ : n.b ≡ get_or code m 0 = h.second_is in
-    let e₂ : n.a ≡ get_or code (m + 1) 0 = h.first_is in
-    let e₃ : n.place ≡ get_or code (m + 2) 0 = h.place_is in
+ended-whole : (code : List ℕ) (m k : ℕ) (n : Node) → LastAt code m → NodeAt code (length code) n → get_or code (m + 3) 0 ≡ k → ended (take m code) k n ≡ code
+ended-whole code m k n l h q =
+    let four = l.0 in
+    let is = l.1 in
+    let e₁ : n.b ≡ get_or code m 0 = h.second_is ∙ ap (λ (i : ℕ). get_or code i 0) (sym l.1) in
+    let e₂ : n.a ≡ get_or code (m + 1) 0 = h.first_is ∙ ap (λ (i : ℕ). get_or code (i + 1) 0) (sym l.1) in
+    let e₃ : n.place ≡ get_or code (m + 2) 0 = h.place_is ∙ ap (λ (i : ℕ). get_or code (i + 2) 0) (sym l.1) in
     let e₄ : get_or code (m + 3) 0 ≡ k = q in
     let e : drop m code ≡ get_or code m 0 ∷ get_or code (m + 1) 0 ∷ get_or code (m + 2) 0 ∷ get_or code (m + 3) 0 ∷ [] = last-four code m (omega arith) in
     let same : n.b ∷ n.a ∷ n.place ∷ k ∷ [] ≡ drop m code = cc in
     ap (λ (y : List ℕ). take m code ++ y) same ∙ take-append-drop m code
 
 -- a law of nodes and where they end, at nodes of which the last stands behind the others
-pub whole : (P : List ℕ → ℕ → Type 0) {code : List ℕ} {k : ℕ} {n : Node} → 4 ≤ length code → NodeAt code (length code) n → get_or code (length code - 4 + 3) 0 ≡ k
-    → P (ended (take (length code - 4) code) k n) (length (take (length code - 4) code) + 4) → P code (length code)
-whole P {code = code} {k = k} {n = n} l h q s =
-    let y : List ℕ = take (length code - 4) code in
-    subst (λ (x : List ℕ). P x (length x)) (ended-whole code k n l h q)
+pub whole : (P : List ℕ → ℕ → Type 0) {code : List ℕ} {m k : ℕ} {n : Node} → LastAt code m → NodeAt code (length code) n → get_or code (m + 3) 0 ≡ k
+    → P (ended (take m code) k n) (length (take m code) + 4) → P code (length code)
+whole P {code = code} {m = m} {k = k} {n = n} l h q s =
+    let y : List ℕ = take m code in
+    subst (λ (x : List ℕ). P x (length x)) (ended-whole code m k n l h q)
     (subst (λ (e : ℕ). P (ended y k n) e) (omega (arith, length-append y (node k n.place n.a n.b))) s)
 
 -- the nodes that end at e in x are those that end at m in y: what was seen of the former was seen of the latter
@@ -75,6 +82,13 @@ pub record Ending (x : List ℕ) (e : ℕ) (y : List ℕ) (m : ℕ) : Type 0 whe
 
 pub front : {x : List ℕ} {m : ℕ} → Ending (take m x) (length (take m x)) x m
 front {x = x} {m = m} = record { same = take-length (take m x); less = front-le x (le_refl (length (take m x))) }
+
+-- in front of the last node, which stands at m, and its shape
+pub front-last : {x : List ℕ} {m : ℕ} → LastAt x m → Ending (take m x) (length (take m x)) x (length x - 4)
+front-last {x = x} {m = m} l = subst (Ending (take m x) (length (take m x)) x) l.1 front
+
+pub shape-last : (x : List ℕ) {m : ℕ} → LastAt x m → get_or x (length x - 4 + 3) 0 ≡ get_or x (m + 3) 0
+shape-last x l = ap (λ (i : ℕ). get_or x (i + 3) 0) (sym l.1)
 
 pub behind : (x y : List ℕ) {m : ℕ} → m ≤ length x → Ending (take m x) (length (take m x)) (x ++ y) m
 behind x y {m = m} l = record { same = take-length (take m x) ∙ sym (take-append-le m x y l); less = front-le x (le_refl (length (take m x))) }
@@ -106,10 +120,10 @@ pairs-at h s = record { falls = le_trans s.falls h.less; kept = s.kept; right = 
 pub pred-at : {x y : List ℕ} {e m : ℕ} {T U : Names} {z : Sizes} {r : Seen} → Ending x e y m → PredSeen x e T U z r → PredSeen y m T U z r
 pred-at h s = record { falls = le_trans s.falls h.less; kept = s.kept; right = λ p i ρ base q. s.right p i ρ base (h.same ∙ q) }
 
-pub term-whole : {code : List ℕ} {k : ℕ} {n : Node} {T U : Names} {z : Sizes} {r : Seen} → 4 ≤ length code → NodeAt code (length code) n → get_or code (length code - 4 + 3) 0 ≡ k
-    → TermSeen (ended (take (length code - 4) code) k n) (length (take (length code - 4) code) + 4) T U z r → TermSeen code (length code) T U z r
+pub term-whole : {code : List ℕ} {m k : ℕ} {n : Node} {T U : Names} {z : Sizes} {r : Seen} → LastAt code m → NodeAt code (length code) n → get_or code (m + 3) 0 ≡ k
+    → TermSeen (ended (take m code) k n) (length (take m code) + 4) T U z r → TermSeen code (length code) T U z r
 term-whole {T = T} {U = U} {z = z} {r = r} = whole (λ (x : List ℕ) (e : ℕ). TermSeen x e T U z r)
 
-pub pred-whole : {code : List ℕ} {k : ℕ} {n : Node} {T U : Names} {z : Sizes} {r : Seen} → 4 ≤ length code → NodeAt code (length code) n → get_or code (length code - 4 + 3) 0 ≡ k
-    → PredSeen (ended (take (length code - 4) code) k n) (length (take (length code - 4) code) + 4) T U z r → PredSeen code (length code) T U z r
+pub pred-whole : {code : List ℕ} {m k : ℕ} {n : Node} {T U : Names} {z : Sizes} {r : Seen} → LastAt code m → NodeAt code (length code) n → get_or code (m + 3) 0 ≡ k
+    → PredSeen (ended (take m code) k n) (length (take m code) + 4) T U z r → PredSeen code (length code) T U z r
 pred-whole {T = T} {U = U} {z = z} {r = r} = whole (λ (x : List ℕ) (e : ℕ). PredSeen x e T U z r)

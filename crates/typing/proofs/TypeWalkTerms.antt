@@ -19,6 +19,7 @@ use Rattle.type_rules.specs.TypesByNumber.{domain_kind, domain_key, term_kind, i
 use Rattle.typing.specs.BoundPromise.{BoundSeen}
 use Rattle.typing.specs.SidesPromise.{SidesSeen}
 use Rattle.typing.specs.declared.types.Sides.{Sides}
+use Rattle.typing.proofs.FrontNodes.{EndsIn}
 use Rattle.typing.proofs.LastNodes.{last-node, one-part, two-parts, three-parts, middle, term-from}
 
 -- faults from the faults of the parts
@@ -83,82 +84,6 @@ module _ (code : List ℕ) (e : ℕ) (l : e ≤ length code) (T : Names) (z : Si
   term-number r p f s q = term-from code e l T z 1 T r (omega arith) refl q
       (λ v i ρ base y. let h = last-node code e l base 1 i v 0 y in record { kind_is = p; fault_is = f; start_is = s ∙ sym h.long })
 
-  pub term-name : (n : Node) (r : Seen) (x w : ℕ) (b : Bool) → NodeAt code e n → get_or code (e - 4 + 3) 0 ≡ 2 → r.start ≡ e - 4
-      → x ≡ n.a → r.kind ≡ entry T x → w ≡ n.place → b ≡ in_reach r.kind → fault_key r.fault ≡ unless_key b (key w 9)
-      → TermSeen code e T T z r
-  unfolding term_codes term_kind term_key
-  term-name n r x w b hn q s xq kq wq bq fq = term-from code e l T z 2 T r (omega arith) refl q
-      (λ g i ρ base y.
-      let h = last-node code e l base 2 i (name_number ρ g) 0 y in
-      let kx : r.kind ≡ entry T (name_number ρ g) = kq ∙ ap (entry T) (xq ∙ hn.first_is ∙ h.is_first) in
-      record { kind_is = kx; fault_is = fq ∙ seen-unless 9 (bq ∙ ap in_reach kx) (wq ∙ hn.place_is ∙ h.is_place); start_is = s ∙ sym h.long })
-
-  -- empty G, empty G H
-  pub term-empty : (n : Node) (r : Seen) (x v w k : ℕ) (b : Bool) → NodeAt code e n → get_or code (e - 4 + 3) 0 ≡ 9 → r.start ≡ e - 4
-      → x ≡ n.a → v ≡ entry T x → w ≡ n.place → b ≡ is_given v → k ≡ element_of v → r.kind ≡ set_of k → fault_key r.fault ≡ unless_key b (key (w + 1) 9)
-      → TermSeen code e T T z r
-  unfolding term_codes term_kind term_key
-  term-empty n r x v w k b hn q s xq vq wq bq eq kq fq = term-from code e l T z 9 T r (omega arith) refl q
-      (λ g i ρ base y.
-      let h = last-node code e l base 9 i (name_number ρ g) 0 y in
-      let vx : v ≡ entry T (name_number ρ g) = vq ∙ ap (entry T) (xq ∙ hn.first_is ∙ h.is_first) in
-      record {
-        kind_is = kq ∙ ap set_of (eq ∙ ap element_of vx);
-        fault_is = fq ∙ seen-unless 9 (bq ∙ ap is_given vx) (ap (λ (j : ℕ). j + 1) (wq ∙ hn.place_is ∙ h.is_place));
-        start_is = s ∙ sym h.long;
-      })
-
-  pub term-empty-pairs : (n : Node) (r : Seen) (x₁ x₂ v₁ v₂ w k₁ k₂ : ℕ) → NodeAt code e n → get_or code (e - 4 + 3) 0 ≡ 10
-      → r.start ≡ e - 4 → x₁ ≡ n.a → x₂ ≡ n.b → v₁ ≡ entry T x₁ → v₂ ≡ entry T x₂ → w ≡ n.place → k₁ ≡ element_of v₁ → k₂ ≡ element_of v₂ → r.kind ≡ pair_of k₁ k₂
-      → fault_key r.fault ≡ lesser (unless_key (is_given v₁) (key (w + 1) 9)) (lesser (unless_key (is_given v₂) (key (w + 2) 9)) (over_key z v₁ v₂ w))
-      → TermSeen code e T T z r
-  unfolding term_codes term_kind term_key
-  term-empty-pairs n r x₁ x₂ v₁ v₂ w k₁ k₂ hn q s xq₁ xq₂ vq₁ vq₂ wq eq₁ eq₂ kq fq =
-      term-from code e l T z 10 T r (omega arith) refl q
-      (λ g g' i ρ base y.
-      let h = last-node code e l base 10 i (name_number ρ g) (name_number ρ g') y in
-      let p₁ : v₁ ≡ entry T (name_number ρ g) = vq₁ ∙ ap (entry T) (xq₁ ∙ hn.first_is ∙ h.is_first) in
-      let p₂ : v₂ ≡ entry T (name_number ρ g') = vq₂ ∙ ap (entry T) (xq₂ ∙ hn.second_is ∙ h.is_second) in
-      let faults : ℕ → ℕ → ℕ → ℕ = λ j x y. lesser (unless_key (is_given x) (key (j + 1) 9)) (lesser (unless_key (is_given y) (key (j + 2) 9)) (over_key z x y j)) in
-      record {
-        kind_is = kq ∙ ap₂ pair_of (eq₁ ∙ ap element_of p₁) (eq₂ ∙ ap element_of p₂);
-        fault_is = fq ∙ ap (λ (j : ℕ). faults j v₁ v₂) (wq ∙ hn.place_is ∙ h.is_place) ∙ ap₂ (faults i) p₁ p₂;
-        start_is = s ∙ sym h.long;
-      })
-
-  pub term-prefix : (U : Names) (n : Node) (v r : Seen) (b : Bool) → NodeAt code e n → get_or code (e - 4 + 3) 0 ≡ 3 → TermSeen code (e - 4) T U z v
-      → PrefixFits n.a v.kind b → PrefixType n.a v.kind r.kind → r.start ≡ v.start → fault_key r.fault ≡ judged_key b (key n.place 10) (fault_key v.fault)
-      → TermSeen code e T U z r
-  unfolding term_codes term_kind term_key
-  term-prefix U n v r b hn q hv bq kq sq fq = term-from code e l T z 3 U r (let f = hv.falls in omega arith) hv.kept q
-      (λ o t i ρ base y.
-      let h = one-part code e l base (term_codes t (suc i) ρ) 3 i (code_of (prefix_kind o)) 0 y in
-      let s = hv.right t (suc i) ρ base h.before in
-      let is : code_of (prefix_kind o) ≡ n.a = sym (hn.first_is ∙ h.is_first) in
-      record {
-        kind_is = kq o is ∙ ap (prefix_type o) s.kind_is;
-        fault_is = fq ∙ seen-judged (bq o is ∙ ap (prefix_fits o) s.kind_is) (hn.place_is ∙ h.is_place) s.fault_is;
-        start_is = sq ∙ s.start_is;
-      })
-
-  pub term-divided : (U : Names) (n : Node) (v r : Seen) (w₁ w₂ g m : ℕ) → NodeAt code e n → get_or code (e - 4 + 3) 0 ≡ 4 → TermSeen code (e - 4) T U z v
-      → w₁ ≡ n.place → w₂ ≡ n.b % 2 → g ≡ unless_key (ltb 0 n.a) (key (w₁ + 1 + w₂) 14) → m ≡ lesser (fault_key v.fault) g
-      → r.kind ≡ 1 → r.start ≡ v.start → fault_key r.fault ≡ judged_key (is_number v.kind) (key n.place 10) m
-      → TermSeen code e T U z r
-  unfolding term_codes term_kind term_key
-  term-divided U n v r w₁ w₂ g m hn q hv wq₁ wq₂ gq mq kq sq fq = term-from code e l T z 4 U r (let f = hv.falls in omega arith) hv.kept q
-      (λ o t d i ρ base y.
-      let h = one-part code e l base (term_codes t i ρ) 4 (i + term_width t) d.magnitude (sign_of d.negative + division_number o) y in
-      let s = hv.right t i ρ base h.before in
-      let at : n.place ≡ i + term_width t = hn.place_is ∙ h.is_place in
-      let sign : w₂ ≡ sign_of d.negative = wq₂ ∙ ap (λ (x : ℕ). x % 2) (hn.second_is ∙ h.is_second) ∙ sign-of d.negative o in
-      record {
-        kind_is = kq;
-        fault_is = fq ∙ seen-judged (ap (λ (x : ℕ). is_number x) s.kind_is) at
-            (mq ∙ ap₂ lesser s.fault_is (gq ∙ seen-unless 14 (ap (ltb 0) (hn.first_is ∙ h.is_first)) (ap₂ (λ (x j : ℕ). x + 1 + j) (wq₁ ∙ at) sign)));
-        start_is = sq ∙ s.start_is;
-      })
-
   -- two terms, one behind the other
   pub sides-seen : (U W : Names) (v u : Seen) (r : Sides) → TermSeen code e T U z u → TermSeen code u.start U W z v
       → r.first ≡ v.kind → r.second ≡ u.kind → r.start ≡ v.start → fault_key r.fault ≡ lesser (fault_key v.fault) (fault_key u.fault) → SidesSeen code e T W z r
@@ -171,24 +96,6 @@ module _ (code : List ℕ) (e : ℕ) (l : e ≤ length code) (T : Names) (z : Si
         let s₁ = hv.right t₁ i ρ base (middle code e u.start (base ++ term_codes t₁ i ρ) (term_codes t₂ j ρ) y hu.falls s₂.start_is) in
         record { first_is = kq ∙ s₁.kind_is; second_is = lq ∙ s₂.kind_is; fault_is = fq ∙ ap₂ lesser s₁.fault_is s₂.fault_is; start_is = sq ∙ s₁.start_is };
   }
-
-  -- t and u, with an operator between them
-  pub term-binary : (U : Names) (n : Node) (v : Sides) (r : Seen) (b : Bool) → NodeAt code e n → get_or code (e - 4 + 3) 0 ≡ 5
-      → SidesSeen code (e - 4) T U z v → OperatorFits n.a v.first v.second b
-      → r.kind ≡ v.first → r.start ≡ v.start → fault_key r.fault ≡ judged_key b (key n.place 10) (fault_key v.fault)
-      → TermSeen code e T U z r
-  unfolding term_codes term_kind term_key
-  term-binary U n v r b hn q hv bq kq sq fq =
-      term-from code e l T z 5 U r (let f = hv.falls in omega arith) hv.kept q
-      (λ o t₁ t₂ i ρ base y.
-      let j : ℕ = suc (i + term_width t₁) in
-      let h = two-parts code e l base (term_codes t₁ i ρ) (term_codes t₂ j ρ) 5 (i + term_width t₁) (code_of (operator_kind o)) 0 y in
-      let s = hv.right t₁ t₂ i j ρ base h.before in
-      record {
-        kind_is = kq ∙ s.first_is;
-        fault_is = fq ∙ seen-judged (bq o (sym (hn.first_is ∙ h.is_first)) ∙ ap₂ (operator_fits o) s.first_is s.second_is) (hn.place_is ∙ h.is_place) s.fault_is;
-        start_is = sq ∙ s.start_is;
-      })
 
   -- a name bound for a predicate, and what it was behind it
   pub bound-seen : (U₁ U₂ U₃ : Names) (n : Node) (d p r : Seen) (x old : ℕ) → DomainSeen code e T d → PredSeen code d.start U₁ U₂ z p
@@ -208,53 +115,6 @@ module _ (code : List ℕ) (e : ℕ) (l : e ≤ length code) (T : Names) (z : Si
           start_is = sq ∙ sP.start_is;
         };
   }
-
-  -- {x : G | p}
-  pub term-such : (U : Names) (n : Node) (b r : Seen) → NodeAt code e n → get_or code (e - 4 + 3) 0 ≡ 6
-      → BoundSeen code (e - 4) n T U z b → r.kind ≡ set_of b.kind → r.start ≡ b.start → fault_key r.fault ≡ fault_key b.fault
-      → TermSeen code e T U z r
-  unfolding term_codes term_kind term_key domain_kind domain_key
-  term-such U n b r hn q hb kq sq fq =
-      term-from code e l T z 6 U r (let f = hb.falls in omega arith) hb.kept q
-      (λ y₁ g P i ρ base y.
-      let h = two-parts code e l base (pred_codes P (i + 5) ρ) (node 1 (i + 3) (name_number ρ g) 0) 6 i (number_of_name ρ y₁ no_ending) 0 y in
-      let sB = hb.right (given_set g) P (i + 3) (i + 5) ρ base h.before in
-      let xy : n.a ≡ number_of_name ρ y₁ no_ending = hn.first_is ∙ h.is_first in
-      record {
-        kind_is = kq ∙ ap set_of sB.kind_is;
-        fault_is = fq ∙ sB.fault_is ∙ seen-bound n.place (ap (λ (j : ℕ). j + 1) (hn.place_is ∙ h.is_place)) (ap (entry T) xy) refl
-            (ap (λ (x : ℕ). pred_key P (set T x (domain_kind (given_set g) T ρ)) ρ z (i + 5)) xy);
-        start_is = sq ∙ sB.start_is;
-      })
-
-  -- {t, ...}, {t |-> t, ...}
-  pub term-listed : (U : Names) (n : Node) (v r : Seen) (b : Bool) → NodeAt code e n → get_or code (e - 4 + 3) 0 ≡ 7 → ItemsSeen code (e - 4) T U z v
-      → b ≡ is_element v.kind → r.kind ≡ set_of v.kind → r.start ≡ v.start → fault_key r.fault ≡ judged_key b (key n.place 10) (fault_key v.fault)
-      → TermSeen code e T U z r
-  unfolding term_codes term_kind term_key
-  term-listed U n v r b hn q hv bq kq sq fq = term-from code e l T z 7 U r (let f = hv.falls in omega arith) hv.kept q
-      (λ ts i ρ base y.
-      let h = one-part code e l base (items_codes ts (suc i) ρ) 7 i 0 0 y in
-      let s = hv.right ts (suc i) ρ base h.before in
-      record {
-        kind_is = kq ∙ ap set_of s.kind_is;
-        fault_is = fq ∙ seen-judged (bq ∙ ap is_element s.kind_is) (hn.place_is ∙ h.is_place) s.fault_is;
-        start_is = sq ∙ s.start_is;
-      })
-
-  pub term-pairs : (U : Names) (n : Node) (v r : Seen) (m : ℕ) → NodeAt code e n → get_or code (e - 4 + 3) 0 ≡ 8 → PairsSeen code (e - 4) T U z v
-      → m ≡ brace_key z v.kind n.place → r.kind ≡ v.kind → r.start ≡ v.start → fault_key r.fault ≡ inside_key (fault_key v.fault) m
-      → TermSeen code e T U z r
-  unfolding term_codes term_kind term_key
-  term-pairs U n v r m hn q hv mq kq sq fq = term-from code e l T z 8 U r (let f = hv.falls in omega arith) hv.kept q
-      (λ ts i ρ base y.
-      let h = one-part code e l base (pairs_codes ts (suc i) ρ) 8 i 0 0 y in
-      let s = hv.right ts (suc i) ρ base h.before in
-      record {
-        kind_is = kq ∙ s.kind_is;
-        fault_is = fq ∙ ap₂ (λ (x y : ℕ). inside_key x y) s.fault_is (mq ∙ ap₂ (brace_key z) s.kind_is (hn.place_is ∙ h.is_place));
-        start_is = sq ∙ s.start_is;
-      })
 
   -- the terms of a brace
   pub items-only : (U : Names) (v : Seen) → TermSeen code (e - 4) T U z v → get_or code (e - 4 + 3) 0 ≡ 1 → ItemsSeen code e T U z v
@@ -315,3 +175,146 @@ module _ (code : List ℕ) (e : ℕ) (l : e ≤ length code) (T : Names) (z : Si
           let s₂ = hu.right ts (suc (j + term_width t₂)) ρ ((base ++ term_codes t₁ i ρ) ++ term_codes t₂ j ρ) h.before in
           let s₁ = hv.right t₁ t₂ i j ρ base (middle code (e - 4) u.start ((base ++ term_codes t₁ i ρ) ++ term_codes t₂ j ρ) (pairs_codes ts (suc (j + term_width t₂)) ρ) h.before hu.falls s₂.start_is) in
           record { kind_is = kq ∙ ap₂ shared s₁.kind_is s₂.kind_is; fault_is = fq ∙ ap₂ lesser s₁.fault_is s₂.fault_is; start_is = sq ∙ s₁.start_is }
+
+-- the laws of trees whose last node has others in front
+module _ {code : List ℕ} {e : ℕ} {n : Node} (T : Names) (z : Sizes) where
+  pub term-name : (r : Seen) (x w : ℕ) (b : Bool) → EndsIn code e 2 n → r.start ≡ e - 4
+      → x ≡ n.a → r.kind ≡ entry T x → w ≡ n.place → b ≡ in_reach r.kind → fault_key r.fault ≡ unless_key b (key w 9)
+      → TermSeen code e T T z r
+  unfolding term_codes term_kind term_key
+  term-name r x w b en s xq kq wq bq fq = term-from code e en.fits T z 2 T r (omega arith) refl en.shape
+      (λ g i ρ base y.
+      let h = last-node code e en.fits base 2 i (name_number ρ g) 0 y in
+      let kx : r.kind ≡ entry T (name_number ρ g) = kq ∙ ap (entry T) (xq ∙ en.node.first_is ∙ h.is_first) in
+      record { kind_is = kx; fault_is = fq ∙ seen-unless 9 (bq ∙ ap in_reach kx) (wq ∙ en.node.place_is ∙ h.is_place); start_is = s ∙ sym h.long })
+
+  -- empty G, empty G H
+  pub term-empty : (r : Seen) (x v w k : ℕ) (b : Bool) → EndsIn code e 9 n → r.start ≡ e - 4
+      → x ≡ n.a → v ≡ entry T x → w ≡ n.place → b ≡ is_given v → k ≡ element_of v → r.kind ≡ set_of k → fault_key r.fault ≡ unless_key b (key (w + 1) 9)
+      → TermSeen code e T T z r
+  unfolding term_codes term_kind term_key
+  term-empty r x v w k b en s xq vq wq bq eq kq fq = term-from code e en.fits T z 9 T r (omega arith) refl en.shape
+      (λ g i ρ base y.
+      let h = last-node code e en.fits base 9 i (name_number ρ g) 0 y in
+      let vx : v ≡ entry T (name_number ρ g) = vq ∙ ap (entry T) (xq ∙ en.node.first_is ∙ h.is_first) in
+      record {
+        kind_is = kq ∙ ap set_of (eq ∙ ap element_of vx);
+        fault_is = fq ∙ seen-unless 9 (bq ∙ ap is_given vx) (ap (λ (j : ℕ). j + 1) (wq ∙ en.node.place_is ∙ h.is_place));
+        start_is = s ∙ sym h.long;
+      })
+
+  pub term-empty-pairs : (r : Seen) (x₁ x₂ v₁ v₂ w k₁ k₂ : ℕ) → EndsIn code e 10 n
+      → r.start ≡ e - 4 → x₁ ≡ n.a → x₂ ≡ n.b → v₁ ≡ entry T x₁ → v₂ ≡ entry T x₂ → w ≡ n.place → k₁ ≡ element_of v₁ → k₂ ≡ element_of v₂ → r.kind ≡ pair_of k₁ k₂
+      → fault_key r.fault ≡ lesser (unless_key (is_given v₁) (key (w + 1) 9)) (lesser (unless_key (is_given v₂) (key (w + 2) 9)) (over_key z v₁ v₂ w))
+      → TermSeen code e T T z r
+  unfolding term_codes term_kind term_key
+  term-empty-pairs r x₁ x₂ v₁ v₂ w k₁ k₂ en s xq₁ xq₂ vq₁ vq₂ wq eq₁ eq₂ kq fq =
+      term-from code e en.fits T z 10 T r (omega arith) refl en.shape
+      (λ g g' i ρ base y.
+      let h = last-node code e en.fits base 10 i (name_number ρ g) (name_number ρ g') y in
+      let p₁ : v₁ ≡ entry T (name_number ρ g) = vq₁ ∙ ap (entry T) (xq₁ ∙ en.node.first_is ∙ h.is_first) in
+      let p₂ : v₂ ≡ entry T (name_number ρ g') = vq₂ ∙ ap (entry T) (xq₂ ∙ en.node.second_is ∙ h.is_second) in
+      let faults : ℕ → ℕ → ℕ → ℕ = λ j x y. lesser (unless_key (is_given x) (key (j + 1) 9)) (lesser (unless_key (is_given y) (key (j + 2) 9)) (over_key z x y j)) in
+      record {
+        kind_is = kq ∙ ap₂ pair_of (eq₁ ∙ ap element_of p₁) (eq₂ ∙ ap element_of p₂);
+        fault_is = fq ∙ ap (λ (j : ℕ). faults j v₁ v₂) (wq ∙ en.node.place_is ∙ h.is_place) ∙ ap₂ (faults i) p₁ p₂;
+        start_is = s ∙ sym h.long;
+      })
+
+  pub term-prefix : (U : Names) (v r : Seen) (b : Bool) → EndsIn code e 3 n → TermSeen code (e - 4) T U z v
+      → PrefixFits n.a v.kind b → PrefixType n.a v.kind r.kind → r.start ≡ v.start → fault_key r.fault ≡ judged_key b (key n.place 10) (fault_key v.fault)
+      → TermSeen code e T U z r
+  unfolding term_codes term_kind term_key
+  term-prefix U v r b en hv bq kq sq fq = term-from code e en.fits T z 3 U r (let f = hv.falls in omega arith) hv.kept en.shape
+      (λ o t i ρ base y.
+      let h = one-part code e en.fits base (term_codes t (suc i) ρ) 3 i (code_of (prefix_kind o)) 0 y in
+      let s = hv.right t (suc i) ρ base h.before in
+      let is : code_of (prefix_kind o) ≡ n.a = sym (en.node.first_is ∙ h.is_first) in
+      record {
+        kind_is = kq o is ∙ ap (prefix_type o) s.kind_is;
+        fault_is = fq ∙ seen-judged (bq o is ∙ ap (prefix_fits o) s.kind_is) (en.node.place_is ∙ h.is_place) s.fault_is;
+        start_is = sq ∙ s.start_is;
+      })
+
+  pub term-divided : (U : Names) (v r : Seen) (w₁ w₂ g m : ℕ) → EndsIn code e 4 n → TermSeen code (e - 4) T U z v
+      → w₁ ≡ n.place → w₂ ≡ n.b % 2 → g ≡ unless_key (ltb 0 n.a) (key (w₁ + 1 + w₂) 14) → m ≡ lesser (fault_key v.fault) g
+      → r.kind ≡ 1 → r.start ≡ v.start → fault_key r.fault ≡ judged_key (is_number v.kind) (key n.place 10) m
+      → TermSeen code e T U z r
+  unfolding term_codes term_kind term_key
+  term-divided U v r w₁ w₂ g m en hv wq₁ wq₂ gq mq kq sq fq = term-from code e en.fits T z 4 U r (let f = hv.falls in omega arith) hv.kept en.shape
+      (λ o t d i ρ base y.
+      let h = one-part code e en.fits base (term_codes t i ρ) 4 (i + term_width t) d.magnitude (sign_of d.negative + division_number o) y in
+      let s = hv.right t i ρ base h.before in
+      let at : n.place ≡ i + term_width t = en.node.place_is ∙ h.is_place in
+      let sign : w₂ ≡ sign_of d.negative = wq₂ ∙ ap (λ (x : ℕ). x % 2) (en.node.second_is ∙ h.is_second) ∙ sign-of d.negative o in
+      record {
+        kind_is = kq;
+        fault_is = fq ∙ seen-judged (ap (λ (x : ℕ). is_number x) s.kind_is) at
+            (mq ∙ ap₂ lesser s.fault_is (gq ∙ seen-unless 14 (ap (ltb 0) (en.node.first_is ∙ h.is_first)) (ap₂ (λ (x j : ℕ). x + 1 + j) (wq₁ ∙ at) sign)));
+        start_is = sq ∙ s.start_is;
+      })
+
+  -- t and u, with an operator between them
+  pub term-binary : (U : Names) (v : Sides) (r : Seen) (b : Bool) → EndsIn code e 5 n
+      → SidesSeen code (e - 4) T U z v → OperatorFits n.a v.first v.second b
+      → r.kind ≡ v.first → r.start ≡ v.start → fault_key r.fault ≡ judged_key b (key n.place 10) (fault_key v.fault)
+      → TermSeen code e T U z r
+  unfolding term_codes term_kind term_key
+  term-binary U v r b en hv bq kq sq fq =
+      term-from code e en.fits T z 5 U r (let f = hv.falls in omega arith) hv.kept en.shape
+      (λ o t₁ t₂ i ρ base y.
+      let j : ℕ = suc (i + term_width t₁) in
+      let h = two-parts code e en.fits base (term_codes t₁ i ρ) (term_codes t₂ j ρ) 5 (i + term_width t₁) (code_of (operator_kind o)) 0 y in
+      let s = hv.right t₁ t₂ i j ρ base h.before in
+      record {
+        kind_is = kq ∙ s.first_is;
+        fault_is = fq ∙ seen-judged (bq o (sym (en.node.first_is ∙ h.is_first)) ∙ ap₂ (operator_fits o) s.first_is s.second_is) (en.node.place_is ∙ h.is_place) s.fault_is;
+        start_is = sq ∙ s.start_is;
+      })
+
+  -- {x : G | p}
+  pub term-such : (U : Names) (b r : Seen) → EndsIn code e 6 n
+      → BoundSeen code (e - 4) n T U z b → r.kind ≡ set_of b.kind → r.start ≡ b.start → fault_key r.fault ≡ fault_key b.fault
+      → TermSeen code e T U z r
+  unfolding term_codes term_kind term_key domain_kind domain_key
+  term-such U b r en hb kq sq fq =
+      term-from code e en.fits T z 6 U r (let f = hb.falls in omega arith) hb.kept en.shape
+      (λ y₁ g P i ρ base y.
+      let h = two-parts code e en.fits base (pred_codes P (i + 5) ρ) (node 1 (i + 3) (name_number ρ g) 0) 6 i (number_of_name ρ y₁ no_ending) 0 y in
+      let sB = hb.right (given_set g) P (i + 3) (i + 5) ρ base h.before in
+      let xy : n.a ≡ number_of_name ρ y₁ no_ending = en.node.first_is ∙ h.is_first in
+      record {
+        kind_is = kq ∙ ap set_of sB.kind_is;
+        fault_is = fq ∙ sB.fault_is ∙ seen-bound n.place (ap (λ (j : ℕ). j + 1) (en.node.place_is ∙ h.is_place)) (ap (entry T) xy) refl
+            (ap (λ (x : ℕ). pred_key P (set T x (domain_kind (given_set g) T ρ)) ρ z (i + 5)) xy);
+        start_is = sq ∙ sB.start_is;
+      })
+
+  -- {t, ...}, {t |-> t, ...}
+  pub term-listed : (U : Names) (v r : Seen) (b : Bool) → EndsIn code e 7 n → ItemsSeen code (e - 4) T U z v
+      → b ≡ is_element v.kind → r.kind ≡ set_of v.kind → r.start ≡ v.start → fault_key r.fault ≡ judged_key b (key n.place 10) (fault_key v.fault)
+      → TermSeen code e T U z r
+  unfolding term_codes term_kind term_key
+  term-listed U v r b en hv bq kq sq fq = term-from code e en.fits T z 7 U r (let f = hv.falls in omega arith) hv.kept en.shape
+      (λ ts i ρ base y.
+      let h = one-part code e en.fits base (items_codes ts (suc i) ρ) 7 i 0 0 y in
+      let s = hv.right ts (suc i) ρ base h.before in
+      record {
+        kind_is = kq ∙ ap set_of s.kind_is;
+        fault_is = fq ∙ seen-judged (bq ∙ ap is_element s.kind_is) (en.node.place_is ∙ h.is_place) s.fault_is;
+        start_is = sq ∙ s.start_is;
+      })
+
+  pub term-pairs : (U : Names) (v r : Seen) (m : ℕ) → EndsIn code e 8 n → PairsSeen code (e - 4) T U z v
+      → m ≡ brace_key z v.kind n.place → r.kind ≡ v.kind → r.start ≡ v.start → fault_key r.fault ≡ inside_key (fault_key v.fault) m
+      → TermSeen code e T U z r
+  unfolding term_codes term_kind term_key
+  term-pairs U v r m en hv mq kq sq fq = term-from code e en.fits T z 8 U r (let f = hv.falls in omega arith) hv.kept en.shape
+      (λ ts i ρ base y.
+      let h = one-part code e en.fits base (pairs_codes ts (suc i) ρ) 8 i 0 0 y in
+      let s = hv.right ts (suc i) ρ base h.before in
+      record {
+        kind_is = kq ∙ s.kind_is;
+        fault_is = fq ∙ ap₂ (λ (x y : ℕ). inside_key x y) s.fault_is (mq ∙ ap₂ (brace_key z) s.kind_is (en.node.place_is ∙ h.is_place));
+        start_is = sq ∙ s.start_is;
+      })

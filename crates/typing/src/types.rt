@@ -77,10 +77,9 @@ fn nothing() -> Seen
 fn domain(code: &[u16], names: &[Kind]) -> Seen
     ensures { DomainSeen code.now (length code.now) names.now result }
 {
-    if code.len() < node::SIZE {
+    let Some(at) = code.len().checked_sub(node::SIZE) else {
         return nothing();
-    }
-    let at = code.len() - node::SIZE;
+    };
     let n = last_node(code);
     if code[at + node::SHAPE] == shapes::SET {
         let e = entry(names, usize::from(n.a));
@@ -108,10 +107,9 @@ fn domain(code: &[u16], names: &[Kind]) -> Seen
 fn term(code: &[u16], names: &mut [Kind], sizes: &[u16]) -> Seen
     ensures { TermSeen code.now (length code.now) names.old names.new sizes.now result }
 {
-    if code.len() < node::SIZE {
+    let Some(at) = code.len().checked_sub(node::SIZE) else {
         return nothing();
-    }
-    let at = code.len() - node::SIZE;
+    };
     let front = &code[..at];
     let n = last_node(code);
     match code[at + node::SHAPE] {
@@ -330,10 +328,9 @@ fn paired(front: &[u16], n: Node, names: &mut [Kind], sizes: &[u16]) -> Seen
 fn items(code: &[u16], names: &mut [Kind], sizes: &[u16]) -> Seen
     ensures { ItemsSeen code.now (length code.now) names.old names.new sizes.now result }
 {
-    if code.len() < node::SIZE {
+    let Some(at) = code.len().checked_sub(node::SIZE) else {
         return nothing();
-    }
-    let at = code.len() - node::SIZE;
+    };
     if code[at + node::SHAPE] == shapes::LAST {
         return term(&code[..at], names, sizes);
     }
@@ -354,10 +351,9 @@ fn items(code: &[u16], names: &mut [Kind], sizes: &[u16]) -> Seen
 fn pairs(code: &[u16], names: &mut [Kind], sizes: &[u16]) -> Seen
     ensures { PairsSeen code.now (length code.now) names.old names.new sizes.now result }
 {
-    if code.len() < node::SIZE {
+    let Some(at) = code.len().checked_sub(node::SIZE) else {
         return nothing();
-    }
-    let at = code.len() - node::SIZE;
+    };
     if code[at + node::SHAPE] == shapes::LAST {
         return pair(&code[..at], names, sizes);
     }
@@ -385,14 +381,15 @@ fn pair(code: &[u16], names: &mut [Kind], sizes: &[u16]) -> Seen
 }
 
 // The predicate whose nodes are the last.
+// Form 1: a predicate has no type, and its kind is NONE. With a struct of fault and start alone, `nothing` and the promise `Saw` would each stand once more for it, and `whole`, which
+// `joined`, `compared` and `member` share, would answer a fault of which each of the three makes its own answer.
 #[cycle(types)]
 pub fn pred(code: &[u16], names: &mut [Kind], sizes: &[u16]) -> Seen
     ensures { PredSeen code.now (length code.now) names.old names.new sizes.now result }
 {
-    if code.len() < node::SIZE {
+    let Some(at) = code.len().checked_sub(node::SIZE) else {
         return nothing();
-    }
-    let at = code.len() - node::SIZE;
+    };
     let front = &code[..at];
     let n = last_node(code);
     match code[at + node::SHAPE] {

@@ -3,8 +3,7 @@ use mathlib.Core.Path.{◌≡◌, refl, sym, subst}
 use mathlib.Core.Bool.{Bool, true, false}
 use mathlib.Core.List.{List, []}
 use mathlib.Core.Option.{Option, none, some}
-use Prim.Native.Nat.{ℕ, zero, suc, ◌<◌, ◌≤◌}
-use native.Mathlib.Omega.{arith}
+use Prim.Native.Nat.{ℕ, zero, suc, ◌≤◌}
 use lib.IntN.{nat_abs}
 use Rattle.lexical.specs.Lists.{upward}
 use Rattle.lexical.specs.Symbols.{Name}
@@ -12,12 +11,9 @@ use Rattle.meaning.specs.FormTree.{Letters, End, Range, Domain, given_set, range
 use Rattle.meaning.specs.StaticRulesCarriers.{signed, end_value, range_carrier, given_of}
 use Rattle.meaning.specs.StaticRulesScope.{Scope, binding}
 use Rattle.meaning.specs.StaticRulesNames.{known, range_faults, domain_carrier, domain_faults}
-use Rattle.meaning.specs.Values as val
 use Rattle.meaning.specs.Values.{Value}
-use Rattle.meaning.specs.Meaning.{Environment, with, size_of_given, element_values, domain_values}
+use Rattle.meaning.specs.Meaning.{Environment, with, element_values, domain_values}
 use Rattle.meaning.specs.Bindings.{values_of, Among, Over}
-use Rattle.meaning.proofs.Members.{among-map}
-use Rattle.meaning.proofs.UpwardNumbers.{upward-among}
 use Rattle.value_types.specs.TypedValues.{CarrierFits, CarriersFit, InReach, Carried, RangeWithin, DomainWithin}
 use Rattle.value_types.proofs.FaultlessParts.{bound_over, range-known}
 use Rattle.value_types.proofs.Reach.{size_in, named-size, given_is}
@@ -69,13 +65,3 @@ pub binding-carried : (Γ : Scope) (ρ : Environment) (x : Letters) (t : Domain)
     → Carried (binding Γ x (domain_carrier Γ t)) (with ρ x v)
 unfolding Over
 binding-carried Γ ρ x t v c m = record { givens = c.givens; over = (refl, domain-among Γ ρ t v c m, c.over) }
-
--- the elements of a given set, as {x : G | p} runs through them
-pub element-among : (n k : ℕ) → k < n → Among (val.element n k) (element_values n)
-unfolding element_values
-element-among n k h = among-map (val.element n) k (upward 0 n) (upward-among 0 n k (omega arith) (omega arith))
-
-pub such_carried : (Γ : Scope) (ρ : Environment) (x : Letters) (g : Name) (k : ℕ) → Carried Γ ρ → k < size_of_given ρ g
-    → Carried (binding Γ x (domain_carrier Γ (given_set g))) (with ρ x (val.element (size_of_given ρ g) k))
-unfolding domain_values
-such_carried Γ ρ x g k c h = binding-carried Γ ρ x (given_set g) (val.element (size_of_given ρ g) k) c (element-among (size_of_given ρ g) k h)

@@ -219,18 +219,6 @@ pub parameters-length : (gs : List Given) (δ : Direction) (ys : List Parameter)
     → length (parameters_of gs δ ys) ≡ length (declared_in δ ys)
 parameters-length gs δ ys h = ap (length {A = Variable}) (parameters-are gs δ ys) ∙ declared-length gs (ending_of δ) (declared_in δ ys) (declared-in gs δ ys h)
 
-pub parameter-carriers : (gs : List Given) (δ : Direction) (ys : List Parameter) → HaveCarriers gs (declarations_of ys) → (n : ℕ) (d : Declaration)
-    → get_elem? (declared_in δ ys) n ≡ some d
-    → (c : Carrier) × (carrier_of gs d.type ≡ some c) × (get_elem? (parameters_of gs δ ys) n ≡ some (variable_of (ending_of δ) d c))
-parameter-carriers gs δ ys h n d k =
-    let r = declared-carriers gs (ending_of δ) (declared_in δ ys) (declared-in gs δ ys h) n d k in
-    (r.carrier, r.is, ap (λ (vs : List Variable). get_elem? vs n) (parameters-are gs δ ys) ∙ r.at)
-
-pub carriers-parameter : (gs : List Given) (δ : Direction) (ys : List Parameter) → HaveCarriers gs (declarations_of ys) → (n : ℕ) (v : Variable)
-    → get_elem? (parameters_of gs δ ys) n ≡ some v → DeclarationAt gs (ending_of δ) (declared_in δ ys) n v
-carriers-parameter gs δ ys h n v k =
-    carriers-declared gs (ending_of δ) (declared_in δ ys) (declared-in gs δ ys h) n v (ap (λ (vs : List Variable). get_elem? vs n) (sym (parameters-are gs δ ys)) ∙ k)
-
 -- ---- they fit
 
 pub variables-fit : (gs : List Given) (e : Ending) (ds : List Declaration) → HaveCarriers gs ds → DeclarationsWithin ds → CarriersFit gs (variables gs e ds)

@@ -1,4 +1,4 @@
--- A whole without faults: its parts have none, and it fits. One law for each kind of term, brace and predicate, for number 13's sizes too.
+-- A whole without faults: its parts have none, and it fits. One law for each kind of term, brace and predicate whose faults are more than those of one part.
 use mathlib.Core.Path.{◌≡◌, refl, sym, subst}
 use mathlib.Core.Bool.{Bool, true, false, cond}
 use mathlib.Core.List.{List, [], ◌∷◌, ◌++◌}
@@ -8,15 +8,15 @@ use lib.IntN.{pos}
 use borrow.Author.Tests.{ltb-true, leb-true}
 use Rattle.lexical.specs.Symbols.{Name}
 use Rattle.refusals.specs.Refusals.{Fault, fault, types_misfit}
-use Rattle.meaning.specs.FormTree.{Letters, End, Range, Domain, given_set, range, Given, Prefix, Operator, Division, Quantifier, Connective, Comparison, Membership}
-use Rattle.meaning.specs.FormTree.{Term, name, group, prefix, binary, divided, listed, pairs, such, empty_set, empty_pairs, Items, only, also, Pairs, only_pair, also_pair}
-use Rattle.meaning.specs.FormTree.{Pred, negation, paren, quantified, connected, compared, member, within, related}
+use Rattle.meaning.specs.FormTree.{Letters, End, Range, Domain, given_set, range, Given, Prefix, Operator, Division, Quantifier, Comparison, Membership}
+use Rattle.meaning.specs.FormTree.{Term, name, prefix, binary, divided, listed, pairs, such, empty_pairs, Items, also, Pairs, only_pair, also_pair}
+use Rattle.meaning.specs.FormTree.{Pred, quantified, compared, member, within, related}
 use Rattle.meaning.specs.StaticRulesCarriers.{Carrier, elements_of, largest, plain, end_value, given_of}
 use Rattle.meaning.specs.StaticRulesTypes.{Ty, has, is_number, prefix_fits, operator_fits, comparison_fits, member_fits, related_fits, brace_fits, pairs_type, pairs_fit}
 use Rattle.meaning.specs.StaticRulesScope.{Scope, type_of_name, binding}
 use Rattle.meaning.specs.StaticRulesNames.{Listing, of_name, known, range_fits, range_faults, pairs_fault, divisor_faults, new_name, domain_carrier, domain_faults, domain_length, over_fault, whole_pairs, judged_pairs}
 use Rattle.meaning.specs.StaticRulesNames.{judge_term, judge_items, judge_pairs, judge_pred}
-use Rattle.meaning.specs.StaticRulesLimits.{Sizes, operator_size, size_term, size_items, size_pairs, size_pred, domain_size}
+use Rattle.meaning.specs.StaticRulesLimits.{Sizes, operator_size, size_term, size_pred, domain_size}
 use Rattle.value_types.specs.TypedValues.{sizes_in}
 use Rattle.refusals.proofs.FaultLists.{append_nil-both, append_nil-three, not_nil, unless-nil}
 use Rattle.meaning.proofs.StaticRulesFaultless.{inside-nil, whole-nil}
@@ -63,10 +63,6 @@ pub name-parts : (x : Name) (Γ : Scope) (i : ℕ) → (judge_term (name x) Γ i
 unfolding judge_term
 name-parts x Γ i e = name-known (type_of_name Γ x) i e
 
-pub group-parts : (t : Term) (Γ : Scope) (i : ℕ) → (judge_term (group t) Γ i).faults ≡ [] → (judge_term t Γ (suc i)).faults ≡ []
-unfolding judge_term
-group-parts t Γ i e = e
-
 pub prefix-parts : (o : Prefix) (t : Term) (Γ : Scope) (i : ℕ) → (judge_term (prefix o t) Γ i).faults ≡ []
     → ((judge_term t Γ (suc i)).faults ≡ []) × (prefix_fits o (judge_term t Γ (suc i)).type ≡ true)
 unfolding judge_term
@@ -102,10 +98,6 @@ pub such-parts : (x : Letters) (g : Name) (p : Pred) (Γ : Scope) (i : ℕ) → 
 unfolding judge_term
 such-parts x g p Γ i e = two-parts _ _ (inside-nil _ _ e)
 
-pub empty-set-parts : (g : Name) (Γ : Scope) (i : ℕ) → (judge_term (empty_set g) Γ i).faults ≡ [] → known (given_of Γ.givens g) (suc i) ≡ []
-unfolding judge_term
-empty-set-parts g Γ i e = e
-
 pub empty-pairs-parts : (g h : Name) (Γ : Scope) (i : ℕ) → (judge_term (empty_pairs g h) Γ i).faults ≡ []
     → (known (given_of Γ.givens g) (suc i) ≡ []) × (known (given_of Γ.givens h) (i + 2) ≡ [])
     × (pairs_fault (given_of Γ.givens g) (given_of Γ.givens h) i ≡ [])
@@ -113,10 +105,6 @@ unfolding judge_term
 empty-pairs-parts g h Γ i e = append_nil-three _ _ _ e
 
 -- ---- items and pairs of a brace
-
-pub only_parts : (t : Term) (Γ : Scope) (i : ℕ) → (judge_items (only t) Γ i).faults ≡ [] → (judge_term t Γ i).faults ≡ []
-unfolding judge_term
-only_parts t Γ i e = e
 
 pub also-parts : (t : Term) (ts : Items) (Γ : Scope) (i : ℕ) → (judge_items (also t ts) Γ i).faults ≡ []
     → ((judge_term t Γ i).faults ≡ []) × ((judge_items ts Γ (suc (judge_term t Γ i).next)).faults ≡ [])
@@ -136,24 +124,11 @@ also-pair-parts t u ts Γ i e = append_nil-three _ _ _ e
 
 -- ---- predicates
 
-pub negation-parts : (p : Pred) (Γ : Scope) (i : ℕ) → (judge_pred (negation p) Γ i).faults ≡ [] → (judge_pred p Γ (suc i)).faults ≡ []
-unfolding judge_term
-negation-parts p Γ i e = e
-
-pub paren-parts : (p : Pred) (Γ : Scope) (i : ℕ) → (judge_pred (paren p) Γ i).faults ≡ [] → (judge_pred p Γ (suc i)).faults ≡ []
-unfolding judge_term
-paren-parts p Γ i e = e
-
 pub quantified-parts : (q : Quantifier) (x : Letters) (t : Domain) (p : Pred) (Γ : Scope) (i : ℕ) → (judge_pred (quantified q x t p) Γ i).faults ≡ []
     → (new_name Γ.taken x (i + 2) ≡ []) × (domain_faults Γ t (i + 4) ≡ [])
     × ((judge_pred p (binding Γ x (domain_carrier Γ t)) (suc (i + 4 + domain_length t))).faults ≡ [])
 unfolding judge_term
 quantified-parts q x t p Γ i e = two-parts _ _ (inside-nil _ _ e)
-
-pub connected-parts : (o : Connective) (p q : Pred) (Γ : Scope) (i : ℕ) → (judge_pred (connected o p q) Γ i).faults ≡ []
-    → ((judge_pred p Γ i).faults ≡ []) × ((judge_pred q Γ (suc (judge_pred p Γ i).next)).faults ≡ [])
-unfolding judge_term
-connected-parts o p q Γ i e = append_nil-both _ _ e
 
 pub compared-parts : (o : Comparison) (t u : Term) (Γ : Scope) (i : ℕ) → (judge_pred (compared o t u) Γ i).faults ≡ []
     → ((judge_term t Γ i).faults ≡ []) × ((judge_term u Γ (suc (judge_term t Γ i).next)).faults ≡ [])
@@ -187,14 +162,6 @@ related-parts o t u v Γ i e =
 
 -- ---- number 13's sizes of terms
 
-pub group-sizes : (t : Term) (Z : Sizes) (i : ℕ) → (size_term (group t) Z i).faults ≡ [] → (size_term t Z (suc i)).faults ≡ []
-unfolding size_term
-group-sizes t Z i e = e
-
-pub prefix-sizes : (o : Prefix) (t : Term) (Z : Sizes) (i : ℕ) → (size_term (prefix o t) Z i).faults ≡ [] → (size_term t Z (suc i)).faults ≡ []
-unfolding size_term
-prefix-sizes o t Z i e = e
-
 pub binary-sizes : (o : Operator) (t u : Term) (Z : Sizes) (i : ℕ) → (size_term (binary o t u) Z i).faults ≡ []
     → ((size_term t Z i).faults ≡ []) × ((size_term u Z (suc (size_term t Z i).next)).faults ≡ [])
     × (operator_size o (size_term t Z i).bound (size_term u Z (suc (size_term t Z i).next)).bound ≤ 2147483647)
@@ -202,85 +169,6 @@ unfolding size_term
 binary-sizes o t u Z i e =
     let h = two-parts _ _ (whole-nil _ _ _ e) in
     (h.0, h.1, leb-true _ _ h.2)
-
-pub divided-sizes : (o : Division) (t : Term) (e : End) (Z : Sizes) (i : ℕ) → (size_term (divided o t e) Z i).faults ≡ [] → (size_term t Z i).faults ≡ []
-unfolding size_term
-divided-sizes o t e Z i h = h
-
-pub listed-sizes : (ts : Items) (Z : Sizes) (i : ℕ) → (size_term (listed ts) Z i).faults ≡ [] → (size_items ts Z (suc i)).faults ≡ []
-unfolding size_term
-listed-sizes ts Z i e = e
-
-pub pairs-sizes : (ts : Pairs) (Z : Sizes) (i : ℕ) → (size_term (pairs ts) Z i).faults ≡ [] → (size_pairs ts Z (suc i)).faults ≡ []
-unfolding size_term
-pairs-sizes ts Z i e = e
-
-pub such-sizes : (x : Letters) (g : Name) (p : Pred) (Z : Sizes) (i : ℕ) → (size_term (such x g p) Z i).faults ≡ []
-    → (size_pred p ((plain x, 0) ∷ Z) (i + 5)).faults ≡ []
-unfolding size_term
-such-sizes x g p Z i e = e
-
--- ---- of the items and pairs of a brace
-
-pub only-sizes : (t : Term) (Z : Sizes) (i : ℕ) → (size_items (only t) Z i).faults ≡ [] → (size_term t Z i).faults ≡ []
-unfolding size_term
-only-sizes t Z i e = e
-
-pub also-sizes : (t : Term) (ts : Items) (Z : Sizes) (i : ℕ) → (size_items (also t ts) Z i).faults ≡ []
-    → ((size_term t Z i).faults ≡ []) × ((size_items ts Z (suc (size_term t Z i).next)).faults ≡ [])
-unfolding size_term
-also-sizes t ts Z i e = append_nil-both _ _ e
-
-pub only-pair-sizes : (t u : Term) (Z : Sizes) (i : ℕ) → (size_pairs (only_pair t u) Z i).faults ≡ []
-    → ((size_term t Z i).faults ≡ []) × ((size_term u Z (suc (size_term t Z i).next)).faults ≡ [])
-unfolding size_term
-only-pair-sizes t u Z i e = append_nil-both _ _ e
-
-pub also-pair-sizes : (t u : Term) (ts : Pairs) (Z : Sizes) (i : ℕ) → (size_pairs (also_pair t u ts) Z i).faults ≡ []
-    → ((size_term t Z i).faults ≡ []) × ((size_term u Z (suc (size_term t Z i).next)).faults ≡ [])
-    × ((size_pairs ts Z (suc (size_term u Z (suc (size_term t Z i).next)).next)).faults ≡ [])
-unfolding size_term
-also-pair-sizes t u ts Z i e = append_nil-three _ _ _ e
-
--- ---- of predicates
-
-pub negation-sizes : (p : Pred) (Z : Sizes) (i : ℕ) → (size_pred (negation p) Z i).faults ≡ [] → (size_pred p Z (suc i)).faults ≡ []
-unfolding size_term
-negation-sizes p Z i e = e
-
-pub paren-sizes : (p : Pred) (Z : Sizes) (i : ℕ) → (size_pred (paren p) Z i).faults ≡ [] → (size_pred p Z (suc i)).faults ≡ []
-unfolding size_term
-paren-sizes p Z i e = e
-
-pub quantified-sizes : (q : Quantifier) (x : Letters) (t : Domain) (p : Pred) (Z : Sizes) (i : ℕ) → (size_pred (quantified q x t p) Z i).faults ≡ []
-    → (size_pred p ((plain x, domain_size t) ∷ Z) (i + 5 + domain_length t)).faults ≡ []
-unfolding size_term
-quantified-sizes q x t p Z i e = e
-
-pub connected-sizes : (o : Connective) (p q : Pred) (Z : Sizes) (i : ℕ) → (size_pred (connected o p q) Z i).faults ≡ []
-    → ((size_pred p Z i).faults ≡ []) × ((size_pred q Z (suc (size_pred p Z i).next)).faults ≡ [])
-unfolding size_term
-connected-sizes o p q Z i e = append_nil-both _ _ e
-
-pub compared-sizes : (o : Comparison) (t u : Term) (Z : Sizes) (i : ℕ) → (size_pred (compared o t u) Z i).faults ≡ []
-    → ((size_term t Z i).faults ≡ []) × ((size_term u Z (suc (size_term t Z i).next)).faults ≡ [])
-unfolding size_term
-compared-sizes o t u Z i e = append_nil-both _ _ e
-
-pub member-sizes : (o : Membership) (t u : Term) (Z : Sizes) (i : ℕ) → (size_pred (member o t u) Z i).faults ≡ []
-    → ((size_term t Z i).faults ≡ []) × ((size_term u Z (suc (size_term t Z i).next)).faults ≡ [])
-unfolding size_term
-member-sizes o t u Z i e = append_nil-both _ _ e
-
-pub within-sizes : (o : Membership) (t : Term) (r : Range) (Z : Sizes) (i : ℕ) → (size_pred (within o t r) Z i).faults ≡ [] → (size_term t Z i).faults ≡ []
-unfolding size_term
-within-sizes o t r Z i e = e
-
-pub related-sizes : (o : Membership) (t u v : Term) (Z : Sizes) (i : ℕ) → (size_pred (related o t u v) Z i).faults ≡ []
-    → ((size_term t Z i).faults ≡ []) × ((size_term u Z (suc (size_term t Z i).next)).faults ≡ [])
-    × ((size_term v Z (suc (size_term u Z (suc (size_term t Z i).next)).next)).faults ≡ [])
-unfolding size_term
-related-sizes o t u v Z i e = append_nil-three _ _ _ e
 
 -- ---- inside a binder
 

@@ -1,6 +1,6 @@
 -- Given sets without faults have different titles: a given set is found by its own.
 use mathlib.Core.Path.{◌≡◌, refl, sym, ap, ◌∙◌, subst}
-use mathlib.Core.Bool.{Bool, true, false, not, true≢false}
+use mathlib.Core.Bool.{Bool, true, false, not}
 use mathlib.Core.Logic.{inl, inr}
 use mathlib.Core.List.{List, [], ◌∷◌, ◌++◌, map}
 use mathlib.Core.Option.{Option, some}
@@ -8,7 +8,7 @@ use Prim.Native.Nat.{ℕ, suc, ◌+◌, ◌≤◌}
 use lib.ListN.{get_or}
 use borrow.Author.Tests.{not-true}
 use Rattle.lexical.specs.Lists.{same, find}
-use Rattle.lexical.proofs.WordLaws.{same_refl, same_true}
+use Rattle.lexical.proofs.WordLaws.{same_refl, same_turned}
 use Rattle.meaning.specs.FormTree.{Letters, Given, elements}
 use Rattle.meaning.specs.FormHeadings.{given_length}
 use Rattle.meaning.specs.StaticRulesCarriers.{size_of, same_name, plain, given_of}
@@ -54,13 +54,6 @@ title-first : (g : Given) (xs : List Letters) → Among g.title (given_names (g 
 unfolding Among given_names
 title-first g xs = inl refl
 
-same_not : (x y : Letters) → same x y ≡ false → same y x ≡ false
-same_not x y e = on (same y x) refl
-  where
-    on : (b : Bool) → same y x ≡ b → b ≡ false
-    on true h = absurd (true≢false (sym (same_refl x) ∙ ap (same x) (sym (same_true y x h)) ∙ e))
-    on false h = refl
-
 plain-same : (x y : Letters) → same_name (plain x) (plain y) ≡ same x y
 unfolding same_name
 plain-same x y = refl
@@ -83,5 +76,5 @@ title-finds xs i (h ∷ gs) e g (inl k) = subst (λ (y : Given). given_of (h ∷
 title-finds xs i (h ∷ gs) e g (inr m) =
     let r = (given-parts xs i h gs e).2 in
     let ys = given_names (h ∷ []) ++ xs in
-    given-there h gs g.title (same_not g.title h.title (titles-new ys (i + given_length h) gs r h.title (title-first h xs) g m))
+    given-there h gs g.title (same_turned h.title g.title (titles-new ys (i + given_length h) gs r h.title (title-first h xs) g m))
     ∙ title-finds ys (i + given_length h) gs r g m

@@ -22,3 +22,4 @@ pub use Rattle.meaning.proofs.UpwardNumbers as MeaningUpwardNumbers
 pub use Rattle.meaning.proofs.StaticRulesTypePlaces as StaticRulesTypePlaces
 pub use Rattle.meaning.proofs.StaticRulesSameTypes as StaticRulesSameTypes
 pub use Rattle.meaning.proofs.LexicalBooleanTests as LexicalBooleanTests
+pub use Rattle.refusals.proofs.FaultLists as RefusalsFaultLists

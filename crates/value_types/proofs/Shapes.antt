@@ -9,16 +9,13 @@ use lib.IntN.{pos}
 use lib.Pow.{pow_mono}
 use Rattle.meaning.specs.FormTree.{Letters}
 use Rattle.meaning.specs.StaticRulesTypes.{Sort, is_number, is_element, is_set, is_pairs, Ty, has, same_type, set_of, pairs_of_types, is_any_set, member_fits, related_fits}
-use Rattle.meaning.specs.StaticRulesScope.{Scope}
-use Rattle.meaning.specs.StaticRulesNames.{over_fault}
 use Rattle.meaning.proofs.LexicalBooleanTests.{and_left, and_right}
 use Rattle.sets.specs.Sets.{pair}
 use Rattle.meaning.specs.Values.{Value, natural, bits, pair_bit}
 use Rattle.meaning.specs.Meaning.{Environment}
-use Rattle.value_types.specs.TypedValues.{IsElementOf, IsSetOver, IsPairsOver, OfSort, HasType, Carried}
-use Rattle.value_types.proofs.TypeTests.{ItemsOf, items-split, PairsOf, pairs-split}
+use Rattle.value_types.specs.TypedValues.{IsElementOf, IsSetOver, IsPairsOver, OfSort, HasType}
 use Rattle.value_types.proofs.SetBounds.{pair-below}
-use Rattle.value_types.proofs.TypedOperations.{sizes, as-sort, over-few}
+use Rattle.value_types.proofs.TypedOperations.{sizes, as-sort}
 use Rattle.meaning.proofs.StaticRulesSameTypes.{same-type}
 
 pub element_place : {n : ℕ} {v : Value} → IsElementOf n v → (k : ℕ) × (v.code ≡ pos k) × (k < 8)
@@ -56,9 +53,6 @@ module _ (ρ : Environment) where
   set-over [] v h = absurd h
   set-over (g ∷ []) v h = (_, refl, h)
   set-over (g ∷ k ∷ ks) v h = absurd h
-
-  pub set-shape : (t : Ty) (v : Value) → has t is_set ≡ true → HasType ρ t v → (n : ℕ) × (sizes ρ t.over ≡ n ∷ []) × IsSetOver n v
-  set-shape t v e h = set-over t.over v (as-sort ρ t is_set v e h)
 
   pairs-over : (gs : List Letters) (v : Value) → OfSort is_pairs (sizes ρ gs) v → (n : ℕ) × (m : ℕ) × (sizes ρ gs ≡ n ∷ m ∷ []) × IsPairsOver n m v
   unfolding OfSort
@@ -110,28 +104,3 @@ module _ (ρ : Environment) where
       let p : HasType ρ (pairs_of_types t u) z = subst (λ (w : Ty). HasType ρ w z) (sym (same-type (pairs_of_types t u) r b)) l in
       pairs-two t.over u.over x y z (as-sort ρ t is_element x (and_left (has t is_element) (has u is_element) a) h)
       (as-sort ρ u is_element y (and_right (has t is_element) (has u is_element) a) k) p
-
-  -- ---- an item, and a pair, of a brace that fits
-
-  pub item-shape : (u a : Ty) (bs : List Ty) (v : Value) → ItemsOf u (a ∷ bs) → HasType ρ a v → (n : ℕ) × IsElementOf n v
-  item-shape u a bs v h k =
-      let r = element-shape u v h.element (subst (λ (t : Ty). HasType ρ t v) (sym (items-split u a bs h).0) k) in
-      (r.0, r.2)
-
-  module _ (Γ : Scope) (c : Carried Γ ρ) where
-    few-two : (gs hs : List Letters) (x y : Value) (i : ℕ) → OfSort is_element (sizes ρ gs) x → OfSort is_element (sizes ρ hs) y
-        → over_fault Γ.givens (gs ++ hs) i ≡ []
-        → (n : ℕ) × (m : ℕ) × IsElementOf n x × IsElementOf m y × (n * m ≤ 16)
-    unfolding OfSort
-    few-two [] hs x y i p q e = absurd p
-    few-two (g ∷ []) [] x y i p q e = absurd q
-    few-two (g ∷ []) (h ∷ []) x y i p q e = (_, _, p, q, over-few ρ Γ c g h i e)
-    few-two (g ∷ []) (h ∷ l ∷ ls) x y i p q e = absurd q
-    few-two (g ∷ k ∷ ks) hs x y i p q e = absurd p
-
-    pub pair-shape : (u w a b : Ty) (ps : List (Ty × Ty)) (x y : Value) (j : ℕ) → PairsOf u w ((a, b) ∷ ps) → over_fault Γ.givens (pairs_of_types u w).over j ≡ []
-        → HasType ρ a x → HasType ρ b y → (n : ℕ) × (m : ℕ) × IsElementOf n x × IsElementOf m y × (n * m ≤ 16)
-    pair-shape u w a b ps x y j h f k l =
-        let e = pairs-split u w (a, b) ps h in
-        few-two u.over w.over x y j (as-sort ρ u is_element x h.first (subst (λ (t : Ty). HasType ρ t x) (sym e.0) k))
-        (as-sort ρ w is_element y h.second (subst (λ (t : Ty). HasType ρ t y) (sym e.1) l)) f

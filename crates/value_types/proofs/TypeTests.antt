@@ -6,7 +6,8 @@ use Prim.Native.Nat.{ℕ}
 use borrow.Author.Tests.{eq-eqb}
 use Rattle.lexical.specs.Lists.{all}
 use Rattle.lexical.proofs.WordLaws.{same_refl}
-use Rattle.meaning.proofs.LexicalBooleanTests.{and_both, and_left, and_right}
+use Rattle.std.proofs.lemmas.Bool.{and_from}
+use Rattle.meaning.proofs.LexicalBooleanTests.{and_left, and_right}
 use Rattle.meaning.specs.FormTree.{Letters}
 use Rattle.meaning.specs.StaticRulesTypes.{Sort, is_number, is_element, is_set, is_pairs, Ty, sort_code, has, same_over_type, same_type, set_of, pairs_of_types, is_any_set, brace_type, brace_fits, pairs_type, pairs_fit}
 use Rattle.meaning.proofs.StaticRulesSameTypes.{has-sort, same-type}
@@ -30,11 +31,11 @@ set-no-number t e h = on t.sort (has-sort t is_number h) e
 over-refl : (xs : List Letters) → same_over_type xs xs ≡ true
 unfolding same_over_type
 over-refl [] = refl
-over-refl (x ∷ xs) = and_both (same_refl x) (over-refl xs)
+over-refl (x ∷ xs) = and_from _ _ (same_refl x) (over-refl xs)
 
 pub type-refl : (t : Ty) → same_type t t ≡ true
 unfolding same_type
-type-refl t = and_both (sort-has t t.sort refl) (over-refl t.over)
+type-refl t = and_from _ _ (sort-has t t.sort refl) (over-refl t.over)
 
 -- ---- the items of a brace
 
@@ -82,7 +83,7 @@ pairs_of (p ∷ ps) e =
       record {
         first = and_left (has t is_element) (has u is_element) f;
         second = and_right (has t is_element) (has u is_element) f;
-        alike = all-more (same_pair t u) p ps (and_both (type-refl t) (type-refl u)) r;
+        alike = all-more (same_pair t u) p ps (and_from _ _ (type-refl t) (type-refl u)) r;
       },
       refl,
     )

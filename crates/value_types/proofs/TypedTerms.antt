@@ -13,7 +13,7 @@ use Rattle.meaning.specs.StaticRulesCarriers.{Variable, elements_of, size_of, sa
 use Rattle.meaning.specs.StaticRulesTypes.{Ty, is_pairs, type_of, set_of, pairs_of_types, is_any_set, has, brace_type, brace_fits, pairs_type, pairs_fit}
 use Rattle.meaning.specs.StaticRulesScope.{Scope, element_of, place_in, type_of_name}
 use Rattle.meaning.specs.StaticRulesNames.{known, over_fault, judge_term, judge_items, judge_pairs}
-use Rattle.meaning.proofs.LexicalBooleanTests.{and_both}
+use Rattle.std.proofs.lemmas.Bool.{and_from}
 use Rattle.sets.proofs.Members.{set_below}
 use Rattle.sets.specs.Sets as sets
 use Rattle.meaning.specs.Values as val
@@ -89,7 +89,7 @@ module _ (Γ : Scope) (ρ : Environment) (s : InReach Γ) (c : Carried Γ ρ) wh
   -- ---- braces
 
   joined : (u : Ty) (v w : Value) → is_any_set u ≡ true → HasType ρ u v → HasType ρ u w → HasType ρ u (operator_value union v w)
-  joined u v w e h k = operator-value ρ union u u v w (and_both e (type-refl u)) h k
+  joined u v w e h k = operator-value ρ union u u v w (and_from _ _ e (type-refl u)) h k
 
   item-typed : (u a : Ty) (bs : List Ty) (v : Value) → ItemsOf u (a ∷ bs) → HasType ρ a v → HasType ρ (set_of u) (singleton v)
   item-typed u a bs v h k = single-typed ρ u v h.element (subst (λ (t : Ty). HasType ρ t v) (sym (items-split u a bs h).0) k)

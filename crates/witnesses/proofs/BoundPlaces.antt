@@ -3,7 +3,7 @@
 use mathlib.Core.Path.{sym, subst}
 use mathlib.Core.List.{List}
 use Prim.Native.Nat.{ℕ, ◌+◌, ◌*◌, ◌/◌, ◌%◌, ◌<◌, ◌≤◌}
-use native.Mathlib.Nat.{mod-lt, div-lt_iff_lt-mul}
+use native.Mathlib.Nat.{div-lt_iff_lt-mul}
 use native.Mathlib.Omega.{arith}
 use lib.IntN.{ℤ, pos}
 use Rattle.carriers.proofs.Bindings.{bindings-some}
@@ -24,20 +24,13 @@ some-bindings z = subst (λ (x : ℕ). 0 < x) (sym z.count) (bindings-some z.gro
 
 -- ---- the digits
 
-module _ {cells : List ℕ} {s many : ℕ} {g : GroupSize} (z : SizedAt cells s many g) where
-  pub last-low : (q : ℕ) → q % g.bindings < g.bindings
-  last-low q = mod-lt q (some-bindings z)
-
-  front_low : (q m : ℕ) → q < m * g.bindings → q / g.bindings < m
-  front_low q m h = (div-lt_iff_lt-mul (some-bindings z)).1 h
-
 module _ {cells : List ℕ} {p : Part} {at : ℕ} (a : BindAsked cells p at) where
   pub abstracts-low : at / p.primes.bindings / p.outputs.bindings / p.inputs.bindings / p.concretes.bindings < p.abstracts.bindings
   abstracts-low =
-      let o : at / p.primes.bindings < p.abstracts.bindings * p.concretes.bindings * p.inputs.bindings * p.outputs.bindings = front_low a.sized.primes at (p.abstracts.bindings * p.concretes.bindings * p.inputs.bindings * p.outputs.bindings) a.low in
-      let i : at / p.primes.bindings / p.outputs.bindings < p.abstracts.bindings * p.concretes.bindings * p.inputs.bindings = front_low a.sized.outputs (at / p.primes.bindings) (p.abstracts.bindings * p.concretes.bindings * p.inputs.bindings) o in
-      let c : at / p.primes.bindings / p.outputs.bindings / p.inputs.bindings < p.abstracts.bindings * p.concretes.bindings = front_low a.sized.inputs (at / p.primes.bindings / p.outputs.bindings) (p.abstracts.bindings * p.concretes.bindings) i in
-      front_low a.sized.concretes (at / p.primes.bindings / p.outputs.bindings / p.inputs.bindings) p.abstracts.bindings c
+      let o : at / p.primes.bindings < p.abstracts.bindings * p.concretes.bindings * p.inputs.bindings * p.outputs.bindings = (div-lt_iff_lt-mul (some-bindings a.sized.primes)).1 a.low in
+      let i : at / p.primes.bindings / p.outputs.bindings < p.abstracts.bindings * p.concretes.bindings * p.inputs.bindings = (div-lt_iff_lt-mul (some-bindings a.sized.outputs)).1 o in
+      let c : at / p.primes.bindings / p.outputs.bindings / p.inputs.bindings < p.abstracts.bindings * p.concretes.bindings = (div-lt_iff_lt-mul (some-bindings a.sized.inputs)).1 i in
+      (div-lt_iff_lt-mul (some-bindings a.sized.concretes)).1 c
 
 -- ---- the slots
 

@@ -17,11 +17,11 @@ use Rattle.part_places.specs.PartTestsPartGroups.{StateCells, OperationCells, si
 use Rattle.labels.specs.ReadingsReadings.{GroupAt}
 use Rattle.pieces.specs.PiecePromises.{Adds}
 use Rattle.pieces.specs.declared.Writer.{Writer}
-use Rattle.pieces.proofs.WrittenPieces.{both-added}
+use Rattle.pieces.proofs.WrittenPieces.{piece_is, both-added}
 use Rattle.lexical.specs.SymbolPromises.{ending_is}
 use Rattle.lexical.specs.declared.Ending.{Ending}
 use Rattle.lines.specs.LinesByNumber.{ending_byte, group_piece}
-use Rattle.part_places.specs.Places.{GroupsOf, parts, PartAsked, PartSet}
+use Rattle.part_places.specs.Places.{GroupsOf, parts, PartAsked, PartSet, PlaceAsked, PlaceFound}
 use Rattle.part_places.proofs.PartCounts.{sized, by-kind}
 use Rattle.part_places.proofs.PartsPartNumbers.{part-applies, part-corrects}
 use Rattle.held_checks.specs.declared.Obligation.{Obligation}
@@ -33,8 +33,8 @@ use Rattle.witnesses.specs.WitnessSteps.{SizedAt, PartSized, BindAsked, LinesAsk
 -- the lines of a group by other names of its numbers
 pub group-as : (text labels : List ℕ) (σ : List ℤ) {i n s i' n' s' : ℕ} {e e' : Ending} {v w : Writer} → (i ≡ i') × (n ≡ n') × (s ≡ s') × (e ≡ e')
     → Adds (group_piece text labels i n s (ending_byte (ending_is e)) σ) v w → Adds (group_piece text labels i' n' s' (ending_byte (ending_is e')) σ) v w
-group-as text labels σ {v = v} {w} h a =
-    subst (λ (p : List ℕ). Adds p v w) (λ k. group_piece text labels (h.0 k) (h.1 k) (h.2 k) (ending_byte (ending_is (h.3 k))) σ) a
+group-as text labels σ h a =
+    piece_is (λ k. group_piece text labels (h.0 k) (h.1 k) (h.2 k) (ending_byte (ending_is (h.3 k))) σ) a
 
 -- and they fit where the group of those numbers does
 pub group-fits : {i n s i' n' s' : ℕ} {e e' : Ending} (at long : ℕ) → (i ≡ i') × (n ≡ n') × (s ≡ s') × (e ≡ e') → i' + n' ≤ 160 → s' + n' ≤ 64 → at + 645 * n' ≤ long
@@ -93,6 +93,15 @@ parted {cells = cells} P d G h = by-kind P d G h (λ k p. PartSized cells p) (op
 pub operation-of : {k : ℕ} {r : Obligation} → PartTold k r → (j : ℕ) → (r ≡ Applicability j) ⊎ (r ≡ Correctness j) → j ≡ (k - 1) / 2
 operation-of t j (inl e) = omega (arith, part-applies t j e)
 operation-of t j (inr e) = omega (arith, part-corrects t j e)
+
+-- where the part of a place is found, its witness is asked for
+pub witness-asked : {table groups : List ℕ} {operations place k q : ℕ} → PlaceAsked table groups operations place → PlaceFound table groups operations place k q → WitnessAsked table groups k q
+witness-asked a f = record {
+  dossier = a.all.dossier;
+  groups_are = a.all.groups_are;
+  inside = f.within a.all.dossier a.all.groups_are a.all.many a.inside;
+  low = f.low a.all.dossier a.all.groups_are a.all.many a.inside;
+}
 
 module _ {table groups : List ℕ} {k q : ℕ} (a : WitnessAsked table groups k q) where
   pub part-asked : PartAsked table groups k

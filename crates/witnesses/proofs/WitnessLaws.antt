@@ -8,15 +8,16 @@ use native.Mathlib.Omega.{arith}
 use lib.IntN.{ℤ}
 use lib.ListN.{length, get_elem?}
 use Rattle.lexical.specs.Lists.{bytes}
-use Rattle.form.specs.Tree.{Operation, Dossier}
+use Rattle.lexical.specs.Symbols.{Ending, no_ending, query, shriek}
+use Rattle.form.specs.Tree.{Declaration, declarations, Operation, Dossier}
 use Rattle.static_rules.specs.Carriers.{Variable}
-use Rattle.static_rules.specs.Scope.{primed, inputs, outputs}
+use Rattle.static_rules.specs.Scope.{variables, parameters_of, primed, inputs, outputs}
 use Rattle.static_rules.specs.Limits.{binding_count}
 use Rattle.meaning.specs.Meaning.{Binding}
 use Rattle.meaning.specs.Bindings.{bindings}
 use Rattle.meaning.specs.Operations.{after}
 use Rattle.carriers.proofs.Bindings.{binding-long}
-use Rattle.slot_carriers.specs.CellGroups.{HoldsBinding}
+use Rattle.slot_carriers.specs.CellGroups.{CellsOf, HoldsBinding}
 use Rattle.obligations.specs.Subjects.{subject_of}
 use Rattle.obligations.specs.Order.{variables_of, binding_of, applies}
 use Rattle.obligations.specs.Report.{name_bytes, value_bytes, binding_lines, witness_lines, check_at}
@@ -29,8 +30,8 @@ use Rattle.part_places.proofs.PartsPartOrderLaws.{first-size, applicability-size
 use Rattle.pieces.specs.PiecePromises.{Writes, Adds}
 use Rattle.pieces.specs.declared.Writer.{Writer}
 use Rattle.labels.specs.Labels.{LabelsFrom, LabelsOf}
-use Rattle.lines.specs.LinesByNumber.{group_piece}
-use Rattle.lines.proofs.LabelledLines.{left, state-lines, primed-lines, input-lines, output-lines}
+use Rattle.lines.specs.LinesByNumber.{ending_byte, group_piece}
+use Rattle.lines.proofs.LabelledLines.{left, declared-lines, primed-lines}
 use Rattle.part_places.specs.Places.{GroupsOf, parts, PartSet}
 use Rattle.part_places.proofs.PartCounts.{by-kind}
 use Rattle.witnesses.specs.WitnessPromises.{AddsWitness}
@@ -54,35 +55,14 @@ lines_join (v ∷ xs) ys (x ∷ a) b e =
 join-at : (vs ys : List Variable) (k : ℕ) (b : Binding) → k < binding_count vs → binding_lines (vs ++ ys) (nth (bindings vs) k ++ b) ≡ binding_lines vs (nth (bindings vs) k) ++ binding_lines ys b
 join-at vs ys k b h = lines_join vs ys (nth (bindings vs) k) b (binding-long vs k h)
 
--- ---- the groups of a dossier, each with its labels and slots
+-- ---- a group of declared variables, with its labels and slots
 
 module _ (text labels : List ℕ) (d : Dossier) (L : LabelsOf text labels d) (cells : List ℕ) (σ : List ℤ) where
-  abstract-group : StateCells cells (us d) (cs d) → (k : ℕ) → HoldsBinding cells 0 (length (us d)) k σ → k < na d
-      → group_piece text labels 1 (length (us d)) 0 0 σ ≡ binding_lines (us d) (nth (bindings (us d)) k)
-  abstract-group C k B h = state-lines text labels d L.elements_at 1 0 k σ d.abstract L.abstracts h (B (us d) C.abstracts refl)
-
-  concrete-group : StateCells cells (us d) (cs d) → (k : ℕ) → HoldsBinding cells 8 (length (cs d)) k σ → k < nc d
-      → group_piece text labels 10 (length (cs d)) 8 0 σ ≡ binding_lines (cs d) (nth (bindings (cs d)) k)
-  concrete-group C k B h = state-lines text labels d L.elements_at 10 8 k σ d.concrete L.concretes h (B (cs d) C.concretes refl)
-
-  primed-group : StateCells cells (us d) (cs d) → (k : ℕ) → HoldsBinding cells 22 (length (cs d)) k σ → k < nc d
-      → group_piece text labels 10 (length (cs d)) 22 39 σ ≡ binding_lines (primed d d.concrete) (after (nth (bindings (cs d)) k))
-  primed-group C k B h = primed-lines text labels d L.elements_at 10 22 k σ d.concrete L.concretes h (B (cs d) C.concretes_primed refl)
-
-  module _ (j row : ℕ) (op : Operation) (listed : get_elem? d.operations j ≡ some op) (r : row ≡ 8 * j) (C : OperationCells cells (us d) (cs d) (inputs d op) (outputs d op)) where
-    input-group : (k : ℕ) → HoldsBinding cells 16 (length (inputs d op)) k σ → k < ni d op
-        → group_piece text labels (19 + row) (length (inputs d op)) 16 63 σ ≡ binding_lines (inputs d op) (nth (bindings (inputs d op)) k)
-    input-group k B h =
-        let e : 18 + 8 * j + 1 ≡ 19 + row = omega arith in
-        let l : LabelsFrom text labels d.givens (19 + row) (inputs d op) = subst (λ (x : ℕ). LabelsFrom text labels d.givens x (inputs d op)) e (L.inputs_at j op listed) in
-        input-lines text labels d L.elements_at (19 + row) 16 k σ op l h (B (inputs d op) C.inputs refl)
-
-    output-group : (k : ℕ) → HoldsBinding cells 19 (length (outputs d op)) k σ → k < nq d op
-        → group_piece text labels (23 + row) (length (outputs d op)) 19 33 σ ≡ binding_lines (outputs d op) (nth (bindings (outputs d op)) k)
-    output-group k B h =
-        let e : 18 + 8 * j + 5 ≡ 23 + row = omega arith in
-        let l : LabelsFrom text labels d.givens (23 + row) (outputs d op) = subst (λ (x : ℕ). LabelsFrom text labels d.givens x (outputs d op)) e (L.outputs_at j op listed) in
-        output-lines text labels d L.elements_at (23 + row) 19 k σ op l h (B (outputs d op) C.outputs refl)
+  declared-group : (e : Ending) (ds : List Declaration) {n : ℕ} (i s : ℕ) → LabelsFrom text labels d.givens n (variables d.givens e ds) → CellsOf cells s (variables d.givens e ds)
+      → (k : ℕ) → HoldsBinding cells s (length (variables d.givens e ds)) k σ → k < binding_count (variables d.givens e ds) → n ≡ i
+      → group_piece text labels i (length (variables d.givens e ds)) s (ending_byte e) σ ≡ binding_lines (variables d.givens e ds) (nth (bindings (variables d.givens e ds)) k)
+  declared-group e ds i s l c k B h m =
+      declared-lines text labels d L.elements_at i s k σ e e ds (subst (λ (x : ℕ). LabelsFrom text labels d.givens x (variables d.givens e ds)) m l) h (B (variables d.givens e ds) c refl)
 
 -- ---- the three kinds of parts
 
@@ -94,7 +74,7 @@ module _ (text labels : List ℕ) (d : Dossier) (L : LabelsOf text labels d) (ce
       let c : ℕ = q / 1 / 1 / 1 % nc d in
       let e : c ≡ q = ap (λ (x : ℕ). x % nc d) (div-one (q / 1 / 1) ∙ div-one (q / 1) ∙ div-one q) ∙ mod-eq_of_lt h in
       append-nil (group_piece text labels 10 (length (cs d)) 8 0 σ)
-      ∙ concrete-group text labels d L cells σ C c B.concretes (digit-in (cs d) (q / 1 / 1 / 1))
+      ∙ declared-group text labels d L cells σ no_ending (declarations d.concrete) 10 8 L.concretes C.concretes c B.concretes (digit-in (cs d) (q / 1 / 1 / 1)) refl
       ∙ ap (λ (x : ℕ). binding_lines (cs d) (nth (bindings (cs d)) x)) e
       ∙ sym (ap (witness_lines (subject_of d)) (opening-check d q h))
 
@@ -102,7 +82,7 @@ module _ (text labels : List ℕ) (d : Dossier) (L : LabelsOf text labels d) (ce
     pub applicability-witness : BoundAt cells (applicability_part (us d) (cs d) (inputs d op) (outputs d op)) q σ → q < na d * nc d * ni d op
         → part_piece text labels (applicability_part (us d) (cs d) (inputs d op) (outputs d op)) row σ
         ≡ witness_lines (subject_of d) (check_at (subject_of d) (part_begin d (1 + 2 * j) + q))
-    unfolding group_piece witness_lines variables_of binding_of
+    unfolding group_piece witness_lines variables_of binding_of parameters_of
     applicability-witness B h =
         let is : List Variable = inputs d op in
         let e : q ≡ q / 1 / 1 = sym (div-one (q / 1) ∙ div-one q) in
@@ -116,9 +96,12 @@ module _ (text labels : List ℕ) (d : Dossier) (L : LabelsOf text labels d) (ce
         let x : Binding = nth (bindings (us d)) a in
         let y : Binding = nth (bindings (cs d)) c in
         let w : Binding = nth (bindings is) i in
-        let pa : group_piece text labels 1 (length (us d)) 0 0 σ ≡ binding_lines (us d) x = abstract-group text labels d L cells σ C.states a B.abstracts la in
-        let pc : group_piece text labels 10 (length (cs d)) 8 0 σ ≡ binding_lines (cs d) y = concrete-group text labels d L cells σ C.states c B.concretes lc in
-        let pi : group_piece text labels (19 + row) (length is) 16 63 σ ++ [] ≡ binding_lines is w = append-nil _ ∙ input-group text labels d L cells σ j row op listed r C i B.inputs (digit-in is (q / 1 / 1)) in
+        let pa : group_piece text labels 1 (length (us d)) 0 0 σ ≡ binding_lines (us d) x
+        = declared-group text labels d L cells σ no_ending (declarations d.abstract) 1 0 L.abstracts C.states.abstracts a B.abstracts la refl in
+        let pc : group_piece text labels 10 (length (cs d)) 8 0 σ ≡ binding_lines (cs d) y
+        = declared-group text labels d L cells σ no_ending (declarations d.concrete) 10 8 L.concretes C.states.concretes c B.concretes lc refl in
+        let pi : group_piece text labels (19 + row) (length is) 16 63 σ ++ [] ≡ binding_lines is w
+        = append-nil _ ∙ declared-group text labels d L cells σ query _ (19 + row) 16 (L.inputs_at j op listed) C.inputs i B.inputs (digit-in is (q / 1 / 1)) (omega arith) in
         (λ m. pa m ++ (pc m ++ pi m))
         ∙ sym (join-at (us d) (cs d ++ is) a (y ++ w) la ∙ ap (λ (l : List ℕ). binding_lines (us d) x ++ l) (join-at (cs d) is c w lc))
         ∙ ap₂ binding_lines (sym (append_assoc (us d) (cs d) is)) (sym (append_assoc x y w))
@@ -128,7 +111,7 @@ module _ (text labels : List ℕ) (d : Dossier) (L : LabelsOf text labels d) (ce
     pub correctness-witness : BoundAt cells (correctness_part (us d) (cs d) (inputs d op) (outputs d op)) q σ → q < na d * nc d * ni d op * nq d op * nc d
         → part_piece text labels (correctness_part (us d) (cs d) (inputs d op) (outputs d op)) row σ
         ≡ witness_lines (subject_of d) (check_at (subject_of d) (part_begin d (2 + 2 * j) + q))
-    unfolding witness_lines variables_of binding_of
+    unfolding witness_lines variables_of binding_of parameters_of
     correctness-witness B h =
         let is : List Variable = inputs d op in
         let os : List Variable = outputs d op in
@@ -152,11 +135,16 @@ module _ (text labels : List ℕ) (d : Dossier) (L : LabelsOf text labels d) (ce
         let w : Binding = nth (bindings is) i in
         let v : Binding = nth (bindings os) o in
         let u : Binding = after (nth (bindings (cs d)) k) in
-        let pa : group_piece text labels 1 (length (us d)) 0 0 σ ≡ binding_lines (us d) x = abstract-group text labels d L cells σ C.states a B.abstracts la in
-        let pc : group_piece text labels 10 (length (cs d)) 8 0 σ ≡ binding_lines (cs d) y = concrete-group text labels d L cells σ C.states c B.concretes lc in
-        let pi : group_piece text labels (19 + row) (length is) 16 63 σ ≡ binding_lines is w = input-group text labels d L cells σ j row op listed r C i B.inputs li in
-        let po : group_piece text labels (23 + row) (length os) 19 33 σ ≡ binding_lines os v = output-group text labels d L cells σ j row op listed r C o B.outputs lo in
-        let pk : group_piece text labels 10 (length (cs d)) 22 39 σ ≡ binding_lines ks u = primed-group text labels d L cells σ C.states k B.primes (digit-in (cs d) q) in
+        let pa : group_piece text labels 1 (length (us d)) 0 0 σ ≡ binding_lines (us d) x
+        = declared-group text labels d L cells σ no_ending (declarations d.abstract) 1 0 L.abstracts C.states.abstracts a B.abstracts la refl in
+        let pc : group_piece text labels 10 (length (cs d)) 8 0 σ ≡ binding_lines (cs d) y
+        = declared-group text labels d L cells σ no_ending (declarations d.concrete) 10 8 L.concretes C.states.concretes c B.concretes lc refl in
+        let pi : group_piece text labels (19 + row) (length is) 16 63 σ ≡ binding_lines is w
+        = declared-group text labels d L cells σ query _ (19 + row) 16 (L.inputs_at j op listed) C.inputs i B.inputs li (omega arith) in
+        let po : group_piece text labels (23 + row) (length os) 19 33 σ ≡ binding_lines os v
+        = declared-group text labels d L cells σ shriek _ (23 + row) 19 (L.outputs_at j op listed) C.outputs o B.outputs lo (omega arith) in
+        let pk : group_piece text labels 10 (length (cs d)) 22 39 σ ≡ binding_lines ks u
+        = primed-lines text labels d L.elements_at 10 22 k σ d.concrete L.concretes (digit-in (cs d) q) (B.primes (cs d) C.states.concretes_primed refl) in
         (λ m. pa m ++ (pc m ++ (pi m ++ (po m ++ pk m))))
         ∙ sym (join-at (us d) (cs d ++ (is ++ (os ++ ks))) a (y ++ (w ++ (v ++ u))) la
         ∙ ap (λ (l : List ℕ). binding_lines (us d) x ++ l) (join-at (cs d) (is ++ (os ++ ks)) c (w ++ (v ++ u)) lc

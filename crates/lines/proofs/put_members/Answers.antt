@@ -1,7 +1,6 @@
 -- `lines::put_members` meets its contract: a bit that is not there is skipped, and the member of one that is there added. Assumes nothing.
 use mathlib.Core.Path.{sym, ◌∙◌}
 use mathlib.Core.List.{List}
-use native.Mathlib.Omega.{arith}
 use Prim.Native.Nat.{ℕ}
 use Rattle.lines.specs.LinesByNumber.{member_piece}
 use Rattle.lines.proofs.LineLaws.{members-start, bit-skipped, member-added, members-added, member-length}
@@ -10,9 +9,6 @@ use Rattle.lines.proofs.put_members.Goals.{then-has, else-has}
 
 pub loop-k-init : goal.loop-k-init
 loop-k-init c = members-start (member_piece c.args.names.now.text.now c.args.names.now.labels.now c.args.t.sides c.args.t.size) c.args.t.bits c.args.w.now c.requires
-
-pub put_member-requires : goal.put_member-requires
-put_member-requires c = (omega arith, omega (arith, c.loop-k.invariant.room, c.put_all.ensures.written.end, c.put_all.ensures.written.long))
 
 pub loop-k-preserved : goal.loop-k-preserved
 loop-k-preserved c =

@@ -15,3 +15,6 @@ returns-clause-middle c = c.span_at-3.ensures.0 ∙ ap (λ (n : ℕ). span c.arg
 
 pub returns-clause-end : goal.returns-clause-end
 returns-clause-end c = c.span_at-4.ensures.0 ∙ ap (λ (n : ℕ). span c.args.spans.now (n + 3)) c.of_operation-at.ensures
+
+pub returns-clause-small : goal.returns-clause-small
+returns-clause-small c = (c.span_at.ensures.1, c.span_at-2.ensures.1)

@@ -5,6 +5,7 @@ use Rattle.sets.specs.Division.{floor_div, floor_mod}
 use Rattle.operators.proofs.SignedLaws.{read, narrow-fits, narrow_back}
 use Rattle.operators.proofs.CodeLaws.{is-quotient, is-remainder}
 use mir.Syntax.{w32}
+use native.Mathlib.Omega.{arith}
 use Rattle.operators.proofs.divided.Goals as goal
 
 pub overflow_cast-x : goal.overflow_cast-x
@@ -12,11 +13,11 @@ overflow_cast-x c = narrow-fits c.args.x c.ranges.x c.requires
 
 pub returns-then-how-lt-REMAINDER : goal.returns-then-how-lt-REMAINDER
 returns-then-how-lt-REMAINDER c = read c.floor_div.type_inv ∙ c.floor_div.ensures ∙ ap₂ floor_div (narrow_back c.args.x c.ranges.x c.requires) (to_z-of_z {w = w32} (record { sfits = c.divisor.type_inv }) ∙ c.divisor.ensures)
-    ∙ is-quotient c.args.magnitude c.args.how c.args.x c.if-how-lt-REMAINDER.true
+    ∙ is-quotient c.args.magnitude c.args.how c.args.x (omega (arith, c.if-how-lt-REMAINDER.true))
 
 pub overflow_cast-x-2 : goal.overflow_cast-x-2
 overflow_cast-x-2 c = narrow-fits c.args.x c.ranges.x c.requires
 
 pub returns : goal.returns
 returns c = read c.floor_mod.type_inv ∙ c.floor_mod.ensures ∙ ap₂ floor_mod (narrow_back c.args.x c.ranges.x c.requires) (to_z-of_z {w = w32} (record { sfits = c.divisor-2.type_inv }) ∙ c.divisor-2.ensures)
-    ∙ is-remainder c.args.magnitude c.args.how c.args.x c.if-how-lt-REMAINDER.false
+    ∙ is-remainder c.args.magnitude c.args.how c.args.x (omega (arith, c.if-how-lt-REMAINDER.false))

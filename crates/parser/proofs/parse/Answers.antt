@@ -21,7 +21,7 @@ pub slice_bounds-y-end-2 : goal.slice_bounds-y-end-2
 slice_bounds-y-end-2 c = let values : length c.scan.new.values ≡ 4096 = search rules in let few = few-symbols (left-of c.scan.ensures c.in_ok-n.was) in sym (length-take-le c.in_ok-n.n c.scan.new.values (omega (arith, values)))
 
 pub dossier-requires : goal.dossier-requires
-dossier-requires c = let codes : length c.scan.new.codes ≡ 4096 = search rules in let lent : length c.args.nodes.now ≡ 16384 = search rules in omega (arith, lent)
+dossier-requires c = let lent : length c.args.nodes.now ≡ 16384 = search rules in omega (arith, lent)
 
 pub returns : goal.returns
 returns c = let codes : length c.scan.new.codes ≡ 4096 = search rules in let few = few-symbols (left-of c.scan.ensures c.in_ok-n.was) in let l = length-take-le c.in_ok-n.n c.scan.new.codes (omega (arith, codes)) in let g = formed-as (ok-before c.dossier.result _ c.in_ok-read.was c.map_err.ensures.cases) c.dossier.ensures in let kept = c.dossier.auto.code in parses c.scan.ensures none (ap fault_of c.in_ok-n.was) (whole-structure (left-of c.scan.ensures c.in_ok-n.was) g (omega (arith, g.ended.1, kept, few, l)) (heading_of c.headings.result) c.headings.ensures.0 (ap heading_of (ok-before c.headings.result _ c.in_ok-map_err.was c.map_err-2.ensures.cases)) _ _ (ap (λ (l : List ℕ). l ++ drop c.in_ok-read.read.count c.args.nodes.now) c.copy_from_slice.ensures.after))
@@ -30,16 +30,16 @@ pub returns-in_err-map_err : goal.returns-in_err-map_err
 returns-in_err-map_err c = let codes : length c.scan.new.codes ≡ 4096 = search rules in let few = few-symbols (left-of c.scan.ensures c.in_ok-n.was) in let l = length-take-le c.in_ok-n.n c.scan.new.codes (omega (arith, codes)) in let g = formed-as (ok-before c.dossier.result _ c.in_ok-read.was c.map_err.ensures.cases) c.dossier.ensures in let kept = c.dossier.auto.code in
     let p = err-before c.headings.result _ c.in_err-map_err.was c.map_err-2.ensures.cases in
     let f = c.in_err-map_err.field-0.0 in
-    let at : f.place ≡ get_or (take c.in_ok-n.n c.scan.new.starts) p.0.place (length c.args.text.now) = (let z = p.1.1 in search rules) in
-    let same : f.refusal ≡ p.0.refusal = (search rules) in
+    let at : f.place ≡ get_or (take c.in_ok-n.n c.scan.new.starts) p.0.place (length c.args.text.now) = search rules in
+    let same : f.refusal ≡ p.0.refusal = search rules in
     rw (exits c.from_residual-in_err-map_err.result c.from_residual-in_err-map_err.ensures.1) (parses c.scan.ensures none (ap fault_of c.in_ok-n.was) (refused-as _ _ f (same ∙ subst (λ r. Differs r) p.1.0 c.headings.ensures.1) (heading-fault (left-of c.scan.ensures c.in_ok-n.was) g (omega (arith, g.ended.1, kept, few, l)) (heading_of c.headings.result) c.headings.ensures.0 (ap heading_of p.1.0) _ at)))
 
 pub returns-in_err-read : goal.returns-in_err-read
 returns-in_err-read c =
     let p = err-before c.dossier.result _ c.in_err-read.was c.map_err.ensures.cases in
     let g = c.in_err-read.field-0.0 in
-    let e : g.place ≡ get_or (take c.in_ok-n.n c.scan.new.starts) p.0.place (length c.args.text.now) = (let z = p.1.1 in search rules) in
-    let h : g.refusal ≡ p.0.refusal = (search rules) in
+    let e : g.place ≡ get_or (take c.in_ok-n.n c.scan.new.starts) p.0.place (length c.args.text.now) = search rules in
+    let h : g.refusal ≡ p.0.refusal = search rules in
     rw (exits c.from_residual-in_err-read.result c.from_residual-in_err-read.ensures.1) (parses c.scan.ensures none (ap fault_of c.in_ok-n.was) (refused-as _ _ g h (form-fault (left-of c.scan.ensures c.in_ok-n.was) (formed-as p.1.0 c.dossier.ensures) _ e)))
 
 pub slice_bounds-starts-end : goal.slice_bounds-starts-end

@@ -1,10 +1,12 @@
 -- `reports::put_refusal` meets its contract: the line of a refusal, piece by piece. Assumes nothing.
 use borrow.Author.Rules.{rules}
-use mathlib.Core.Path.{◌∙◌}
+use mathlib.Core.Path.{ap, ◌∙◌}
+use Prim.Native.Nat.{ℕ}
 use native.Mathlib.Omega.{arith}
 use Rattle.lexical.specs.Lists.{bytes}
-use Rattle.pieces.proofs.WrittenPieces.{both-added}
-use Rattle.reports.proofs.LineRooms.{at_room, place-room, newline-room, refusal-short, refusal-for}
+use Rattle.pieces.proofs.WrittenPieces.{piece_is, both-added}
+use Rattle.reports.specs.ReportPromises.{refusal_piece}
+use Rattle.reports.proofs.LineRooms.{at_room, place-room, newline-room, refusal-short}
 use Rattle.reports.proofs.put_refusal.Goals as goal
 
 pub put_all-requires-2 : goal.put_all-requires-2
@@ -21,4 +23,4 @@ put-requires c = newline-room c.from.result c.put_all.ensures.written c.put_deci
 
 pub returns : goal.returns
 unfolding bytes
-returns c = let w = both-added (both-added (both-added (both-added c.put_all.ensures c.put_decimal.ensures) c.put_all-2.ensures) c.put_decimal-2.ensures) c.put.ensures in record { line = refusal-for c.args.f.place (c.from.ensures ∙ c.number.ensures) w; short = omega (arith, w.written.end, refusal-short c.from.result c.args.f.place (omega (arith, c.from.ensures, c.number.type_inv)) (search rules)) }
+returns c = let w = both-added (both-added (both-added (both-added c.put_all.ensures c.put_decimal.ensures) c.put_all-2.ensures) c.put_decimal-2.ensures) c.put.ensures in record { line = piece_is (ap (λ (n : ℕ). refusal_piece n c.args.f.place) (c.from.ensures ∙ c.number.ensures)) w; short = omega (arith, w.written.end, refusal-short c.from.result c.args.f.place (omega (arith, c.from.ensures, c.number.type_inv)) (search rules)) }

@@ -4,7 +4,7 @@ use native.Mathlib.Omega.{arith}
 use lib.ListN.{get_or}
 use Rattle.lexical.specs.Lists.{bytes}
 use Rattle.reports.proofs.LineRooms.{title-room}
-use Rattle.reports.proofs.LineLaws.{opening-line, applying-line, correcting-line, line-for}
+use Rattle.reports.proofs.LineLaws.{opening-line, applying-line, correcting-line}
 use Rattle.reports.proofs.put_refuted.Goals as goal
 
 pub put-requires : goal.put-requires
@@ -17,12 +17,12 @@ put-requires-in-Correctness c = title-room c.args.names.now.text.now (get_or c.a
 
 pub returns-in-Initialisation : goal.returns-in-Initialisation
 unfolding bytes
-returns-in-Initialisation c = line-for c.in-Initialisation.is (opening-line c.put_all.ensures)
+returns-in-Initialisation c = rw c.in-Initialisation.is (opening-line c.put_all.ensures)
 
 pub returns-in-Applicability : goal.returns-in-Applicability
 unfolding bytes
-returns-in-Applicability c = line-for c.in-Applicability.is (applying-line {k = c.in-Applicability.k} c.put_title.ensures c.put.ensures c.put_all-in-Applicability.ensures)
+returns-in-Applicability c = rw c.in-Applicability.is (applying-line {k = c.in-Applicability.k} c.put_title.ensures c.put.ensures c.put_all-in-Applicability.ensures)
 
 pub returns-in-Correctness : goal.returns-in-Correctness
 unfolding bytes
-returns-in-Correctness c = line-for c.in-Correctness.is (correcting-line {k = c.in-Correctness.k} c.put_title-in-Correctness.ensures c.put-in-Correctness.ensures c.put_all-in-Correctness.ensures)
+returns-in-Correctness c = rw c.in-Correctness.is (correcting-line {k = c.in-Correctness.k} c.put_title-in-Correctness.ensures c.put-in-Correctness.ensures c.put_all-in-Correctness.ensures)

@@ -1,8 +1,8 @@
 -- `reports::put_title` meets its contract. Assumes nothing.
-use mathlib.Core.Path.{subst, ◌∙◌}
-use Prim.Native.Nat.{ℕ}
-use Rattle.pieces.specs.PiecePromises.{Adds, letters_at}
+use mathlib.Core.Path.{ap, ◌∙◌}
+use Rattle.pieces.specs.PiecePromises.{letters_at}
+use Rattle.pieces.proofs.WrittenPieces.{piece_is}
 use Rattle.reports.proofs.put_title.Goals as goal
 
 pub returns : goal.returns
-returns c = subst (λ (p : ℕ). Adds (letters_at c.args.names.now.text.now p) c.args.w.now c.put_letters.new.self) (c.from.ensures ∙ c.label.ensures) c.put_letters.ensures
+returns c = piece_is (ap (letters_at c.args.names.now.text.now) (c.from.ensures ∙ c.label.ensures)) c.put_letters.ensures

@@ -10,7 +10,7 @@ pub bounds-d-n-2 : goal.bounds-d-n-2
 bounds-d-n-2 c = let inside = c.requires.at.inside in omega arith
 
 pub all_hold-requires : goal.all_hold-requires
-all_hold-requires c = context-rows c.requires
+all_hold-requires c = rw (c.from-from.ensures, c.from-to.ensures) (context-rows c.requires)
 
 pub returns : goal.returns
-returns c = record { answers = context-answers c.all_hold.ensures.answers; kept = c.all_hold.ensures.kept }
+returns c = record { answers = context-answers (rw (c.from-from.ensures, c.from-to.ensures) at c.all_hold.ensures.answers); kept = c.all_hold.ensures.kept }

@@ -2,7 +2,8 @@
 use mathlib.Core.Path.{refl}
 use native.Mathlib.Omega.{arith}
 use Rattle.step_searches.proofs.FoundSteps.{steps-end}
-use Rattle.step_facts.proofs.AskedFacts.{prepare-asked, steps-asked, step-unlisted, state-beyond, input-beyond, start-beyond, step-found}
+use Rattle.step_searches.proofs.PreparedSearches.{prepare-asked}
+use Rattle.step_facts.proofs.AskedFacts.{steps-asked, step-unlisted, state-beyond, input-beyond, start-beyond, step-found}
 use Rattle.step_searches.proofs.LentParts.{lent, returned}
 use Rattle.memo.proofs.Memos.{blank_memo}
 use Rattle.std.specs.Prelude.{◌*◌, ◌<◌, ◌≤◌, IfSome, unwrap_or}

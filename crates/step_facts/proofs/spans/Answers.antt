@@ -1,6 +1,7 @@
 -- `step_facts::spans` meets its contract: the sizes of the part that is made are those of the groups. Assumes nothing.
 use native.Mathlib.Omega.{arith}
-use Rattle.step_facts.proofs.AskedFacts.{prepare-asked, operation-spans, open-asked, opening-spans}
+use Rattle.step_searches.proofs.PreparedSearches.{prepare-asked}
+use Rattle.step_facts.proofs.AskedFacts.{operation-spans, open-asked, opening-spans}
 use Rattle.step_facts.proofs.spans.Goals as goal
 
 pub prepare-ready-requires : goal.prepare-ready-requires

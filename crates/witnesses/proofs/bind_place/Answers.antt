@@ -1,6 +1,7 @@
 -- `witnesses::bind_place` meets its contract: each group gets the binding of its digit, and a later group leaves the slots of the earlier ones.
+use native.Mathlib.Nat.{mod-lt}
 use native.Mathlib.Omega.{arith}
-use Rattle.witnesses.proofs.BoundPlaces.{counts_of, some-bindings, last-low, abstracts-low, bound_at}
+use Rattle.witnesses.proofs.BoundPlaces.{counts_of, some-bindings, abstracts-low, bound_at}
 use Rattle.witnesses.proofs.bind_place.Goals as goal
 
 pub nonzero_div-o : goal.nonzero_div-o
@@ -22,25 +23,25 @@ pub nonzero_rem-c : goal.nonzero_rem-c
 nonzero_rem-c c = omega (arith, some-bindings c.requires.sized.concretes)
 
 pub bind-requires-2 : goal.bind-requires-2
-bind-requires-2 c = record { k_lt_w = last-low c.requires.sized.concretes _; grouped = c.requires.sized.concretes.grouped; counts = counts_of c.requires.sized.concretes }
+bind-requires-2 c = record { k_lt_w = mod-lt _ (some-bindings c.requires.sized.concretes); grouped = c.requires.sized.concretes.grouped; counts = counts_of c.requires.sized.concretes }
 
 pub nonzero_rem-i : goal.nonzero_rem-i
 nonzero_rem-i c = omega (arith, some-bindings c.requires.sized.inputs)
 
 pub bind-requires-3 : goal.bind-requires-3
-bind-requires-3 c = record { k_lt_w = last-low c.requires.sized.inputs _; grouped = c.requires.sized.inputs.grouped; counts = counts_of c.requires.sized.inputs }
+bind-requires-3 c = record { k_lt_w = mod-lt _ (some-bindings c.requires.sized.inputs); grouped = c.requires.sized.inputs.grouped; counts = counts_of c.requires.sized.inputs }
 
 pub nonzero_rem-o : goal.nonzero_rem-o
 nonzero_rem-o c = omega (arith, some-bindings c.requires.sized.outputs)
 
 pub bind-requires-4 : goal.bind-requires-4
-bind-requires-4 c = record { k_lt_w = last-low c.requires.sized.outputs _; grouped = c.requires.sized.outputs.grouped; counts = counts_of c.requires.sized.outputs }
+bind-requires-4 c = record { k_lt_w = mod-lt _ (some-bindings c.requires.sized.outputs); grouped = c.requires.sized.outputs.grouped; counts = counts_of c.requires.sized.outputs }
 
 pub nonzero_rem-at : goal.nonzero_rem-at
 nonzero_rem-at c = omega (arith, some-bindings c.requires.sized.primes)
 
 pub bind-requires-5 : goal.bind-requires-5
-bind-requires-5 c = record { k_lt_w = last-low c.requires.sized.primes _; grouped = c.requires.sized.primes.grouped; counts = counts_of c.requires.sized.primes }
+bind-requires-5 c = record { k_lt_w = mod-lt _ (some-bindings c.requires.sized.primes); grouped = c.requires.sized.primes.grouped; counts = counts_of c.requires.sized.primes }
 
 pub returns : goal.returns
 returns c = bound_at c.requires c.bind.ensures.values c.bind-2.ensures.values c.bind-2.ensures.others c.bind-3.ensures.values c.bind-3.ensures.others c.bind-4.ensures.values c.bind-4.ensures.others c.bind-5.ensures.values c.bind-5.ensures.others

@@ -13,18 +13,19 @@ use Rattle.form_nodes.specs.Derivations.{Made}
 use Rattle.declarations.specs.DossierPromises.{of_givens, of_operations, WordsAt, five_words}
 use Rattle.form_nodes.proofs.ReadParts.{exits, only, next, takes, likewise, fails, framed, known}
 use Rattle.declarations.proofs.ListItems.{dossier-first}
-use Rattle.declarations.proofs.ListNodes.{closed, contents-made}
+use Rattle.form_nodes.proofs.NodesOfParts.{closed}
+use Rattle.declarations.proofs.ListNodes.{contents-made}
 use Rattle.lexical.specs.Kinds as kind
 use Rattle.form_nodes.specs.Derivations as part
 use Rattle.declarations.proofs.contents.contents.Goals as goal
 
 pub words-requires : goal.words-requires
 unfolding compute_form
-words-requires c = let za = closed c.in_ok-word.was c.close.ensures in let hb = known c.in_ok-sets.was (c.entries.ensures.0 some_entries (five_words ++ (some_op_entries 0 ∷ [])) a_given of_givens) in let mb = subst (λ (z : Answer). Made c.args.y.now.kinds.now c.args.y.now.values.now (part.some_entries 37 1) c.in_ok-word.word.at c.in_ok-word.word.count c.args.code.now c.entries.new.code z) c.in_ok-sets.was c.entries.ensures.1 in search rules
+words-requires c = let hb = known c.in_ok-sets.was (c.entries.ensures.0 some_entries (five_words ++ (some_op_entries 0 ∷ [])) a_given of_givens) in search rules
 
 pub entries-requires-2 : goal.entries-requires-2
 unfolding compute_form
-entries-requires-2 c = let za = closed c.in_ok-word.was c.close.ensures in let hb = known c.in_ok-sets.was (c.entries.ensures.0 some_entries (five_words ++ (some_op_entries 0 ∷ [])) a_given of_givens) in let mb = subst (λ (z : Answer). Made c.args.y.now.kinds.now c.args.y.now.values.now (part.some_entries 37 1) c.in_ok-word.word.at c.in_ok-word.word.count c.args.code.now c.entries.new.code z) c.in_ok-sets.was c.entries.ensures.1 in let hc = (known c.in_ok-five.was c.words.ensures.0) in let wc = subst (λ (z : Answer). Shown (WordsAt c.args.y.now.kinds.now c.in_ok-sets.sets.at) c.in_ok-sets.sets.count z) c.in_ok-five.was c.words.ensures.1 in let wc₁ = wc.1 in let wc₀ = wc.0.place in search rules
+entries-requires-2 c = let za = closed c.in_ok-word.was c.close.ensures in let hb = known c.in_ok-sets.was (c.entries.ensures.0 some_entries (five_words ++ (some_op_entries 0 ∷ [])) a_given of_givens) in let hc = (known c.in_ok-five.was c.words.ensures.0) in let wc = subst (λ (z : Answer). Shown (WordsAt c.args.y.now.kinds.now c.in_ok-sets.sets.at) c.in_ok-sets.sets.count z) c.in_ok-five.was c.words.ensures.1 in let wc₁ = wc.1 in search rules
 
 pub close-requires-2 : goal.close-requires-2
 unfolding compute_form
@@ -36,7 +37,7 @@ returns c = let za = closed c.in_ok-word.was c.close.ensures in let za₀ = za.0
 
 pub returns-in_err-operations : goal.returns-in_err-operations
 unfolding compute_form
-returns-in_err-operations c = rw (exits c.from_residual-in_err-operations.result c.from_residual-in_err-operations.ensures.1) (let za = closed c.in_ok-word.was c.close.ensures in let za₀ = za.0.0 in let hb = known c.in_ok-sets.was (c.entries.ensures.0 some_entries (five_words ++ (some_op_entries 0 ∷ [])) a_given of_givens) in let hc = (known c.in_ok-five.was c.words.ensures.0) in let wc = subst (λ (z : Answer). Shown (WordsAt c.args.y.now.kinds.now c.in_ok-sets.sets.at) c.in_ok-sets.sets.count z) c.in_ok-five.was c.words.ensures.1 in (takes {μ = some_entries 0 ∷ []} {m = c.in_ok-word.word.count} (omega arith) (only _ kind.CONTENTS za.0.1 (λ γ. refl)) (subst (λ j. Reads c.args.y.now.kinds.now j c.in_ok-word.word.count (some_entries 0 ∷ []) (some_bodies 0 ∷ []) (Err c.in_err-operations.field-0.0)) za₀ (next hb (next (framed (some_op_entries 0 ∷ []) hc) (fails (known c.in_err-operations.was (c.entries-2.ensures.0 some_op_entries (exact kind.END ∷ some_bodies 0 ∷ []) an_operation of_operations)))))) (omega arith), tt))
+returns-in_err-operations c = rw (exits c.from_residual-in_err-operations.result c.from_residual-in_err-operations.ensures.1) (let za = closed c.in_ok-word.was c.close.ensures in let za₀ = za.0.0 in let hb = known c.in_ok-sets.was (c.entries.ensures.0 some_entries (five_words ++ (some_op_entries 0 ∷ [])) a_given of_givens) in let hc = (known c.in_ok-five.was c.words.ensures.0) in (takes {μ = some_entries 0 ∷ []} {m = c.in_ok-word.word.count} (omega arith) (only _ kind.CONTENTS za.0.1 (λ γ. refl)) (subst (λ j. Reads c.args.y.now.kinds.now j c.in_ok-word.word.count (some_entries 0 ∷ []) (some_bodies 0 ∷ []) (Err c.in_err-operations.field-0.0)) za₀ (next hb (next (framed (some_op_entries 0 ∷ []) hc) (fails (known c.in_err-operations.was (c.entries-2.ensures.0 some_op_entries (exact kind.END ∷ some_bodies 0 ∷ []) an_operation of_operations)))))) (omega arith), tt))
 
 pub returns-in_err-five : goal.returns-in_err-five
 unfolding compute_form

@@ -4,7 +4,8 @@ use mathlib.Core.List.{[], ◌∷◌}
 use Rattle.form.specs.Machine.{exact}
 use Rattle.form.specs.Computed.{compute_form}
 use Rattle.form_nodes.proofs.ReadParts.{exits, next, fails, framed, known}
-use Rattle.declarations.proofs.ListNodes.{closed, words-shown}
+use Rattle.form_nodes.proofs.NodesOfParts.{closed}
+use Rattle.declarations.proofs.ListNodes.{words-shown}
 use Rattle.lexical.specs.Kinds as kind
 use Rattle.declarations.proofs.contents.words.Goals as goal
 

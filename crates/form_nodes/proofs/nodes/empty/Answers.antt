@@ -1,24 +1,25 @@
 -- `nodes::empty` meets its contract.
 use mathlib.Core.List.{[], ◌∷◌}
 use Prim.Native.Nat.{◌+◌}
-use mathlib.Core.Path.{refl, sym, ap, ◌∙◌}
+use mathlib.Core.Path.{refl, sym, ap}
 use native.Mathlib.Omega.{arith}
 use Rattle.form.specs.Machine.{an_empty_rest}
 use Rattle.form.specs.Computed.{compute_form}
-use Rattle.form_nodes.proofs.ReadParts.{read, here, takes, stops, likewise, known}
-use Rattle.form_nodes.proofs.ItemSteps.{name-step, second-step, name-taken, second-taken}
-use Rattle.form_nodes.proofs.Classes.{named, no-class, some-class}
-use Rattle.form_nodes.proofs.SymbolSpans.{name-at, empty-one, empty-two}
+use Rattle.form_nodes.proofs.ReadParts.{exits, read, here, takes, likewise, known}
+use Rattle.form_nodes.proofs.ItemSteps.{second-step, name-taken, second-taken}
+use Rattle.form_nodes.proofs.ReadNames.{name-class, no-name-class, name-inside, name-read, name-unread, unnamed}
+use Rattle.form_nodes.specs.Derivations.{empty_one, empty_two}
+use Rattle.form_nodes.proofs.NodesOfParts.{node_of, makes}
 use Rattle.form_nodes.proofs.nodes.empty.Goals as goal
 
-pub returns-then-not-is_name : goal.returns-then-not-is_name
+pub returns-in_err-x : goal.returns-in_err-x
 unfolding compute_form
-returns-then-not-is_name c = (stops (omega arith) (λ κ e γ. name-step κ (an_empty_rest ∷ γ) (no-class (named c.kind_at-k.result c.is_name.ensures).classes c.if-not-is_name.true κ (e ∙ sym c.kind_at-k.ensures.is))) (λ γ. refl), tt)
+returns-in_err-x c = rw (exits c.from_residual.result c.from_residual.ensures.1) (unnamed c.in_err-x.was c.name_at.ensures (omega arith), tt)
 
-pub returns-then-not-is_name-2 : goal.returns-then-not-is_name-2
+pub returns-in_default : goal.returns-in_default
 unfolding compute_form
-returns-then-not-is_name-2 c = let g = (named c.kind_at-k.result c.is_name.ensures).name c.if-not-is_name.false in (known (ap (λ m. read (c.args.at + 1 + 1) m) (sym c.put-m.ensures.count)) (takes {μ = an_empty_rest ∷ []} (omega arith) (λ κ e γ. name-taken κ (an_empty_rest ∷ γ) (some-class (named c.kind_at-k.result c.is_name.ensures).classes c.if-not-is_name.false κ (e ∙ sym c.kind_at-k.ensures.is))) (likewise (λ κ e γ. second-step κ γ (no-class (named c.kind_at-j.result c.is_name-2.ensures).classes c.if-not-is_name-2.true κ (e ∙ sym c.kind_at-j.ensures.is))) (λ γ. refl) (here (omega arith))) (omega arith)), empty-one c.requires.2 (name-at c.kind_at-k.ensures.is (named c.kind_at-k.result c.is_name.ensures) c.if-not-is_name.false) c.name_number-x.ensures c.put-m.ensures)
+returns-in_default c = let x = name-read c.in_ok-x.was c.name_at.ensures in let g = name-inside x.0 in let y = name-unread c.in_default.is c.name_at-2.ensures in (known (ap (λ m. read (c.args.from.at + 1 + 1) m) (sym c.put-m.ensures.count)) (takes {μ = an_empty_rest ∷ []} (omega arith) (λ κ e γ. name-taken κ (an_empty_rest ∷ γ) (name-class x.0 κ e)) (likewise (λ κ e γ. second-step κ γ (no-name-class y κ e)) (λ γ. refl) (here (omega arith))) (omega arith)), makes (node_of x.1 refl c.put-m.ensures) (empty_one c.requires.2 x.0))
 
 pub returns : goal.returns
 unfolding compute_form
-returns c = let g = (named c.kind_at-k.result c.is_name.ensures).name c.if-not-is_name.false in let h = (named c.kind_at-j.result c.is_name-2.ensures).name c.if-not-is_name-2.false in (known (ap (λ m. read (c.args.at + 1 + 1 + 1) m) (sym c.put-m-2.ensures.count)) (takes {μ = an_empty_rest ∷ []} {m = c.args.n + 4} (omega arith) (λ κ e γ. name-taken κ (an_empty_rest ∷ γ) (some-class (named c.kind_at-k.result c.is_name.ensures).classes c.if-not-is_name.false κ (e ∙ sym c.kind_at-k.ensures.is))) (takes (omega arith) (λ κ e γ. second-taken κ γ (some-class (named c.kind_at-j.result c.is_name-2.ensures).classes c.if-not-is_name-2.false κ (e ∙ sym c.kind_at-j.ensures.is))) (here (omega arith)) (omega arith)) (omega arith)), empty-two c.requires.2 (name-at c.kind_at-k.ensures.is (named c.kind_at-k.result c.is_name.ensures) c.if-not-is_name.false) (name-at c.kind_at-j.ensures.is (named c.kind_at-j.result c.is_name-2.ensures) c.if-not-is_name-2.false) c.name_number-x.ensures c.name_number-second.ensures c.put-m-2.ensures)
+returns c = let x = name-read c.in_ok-x.was c.name_at.ensures in let g = name-inside x.0 in let y = name-read c.in-Ok.is c.name_at-2.ensures in let h = name-inside y.0 in (known (ap (λ m. read (c.args.from.at + 1 + 1 + 1) m) (sym c.put-m-2.ensures.count)) (takes {μ = an_empty_rest ∷ []} {m = c.args.from.count + 4} (omega arith) (λ κ e γ. name-taken κ (an_empty_rest ∷ γ) (name-class x.0 κ e)) (takes (omega arith) (λ κ e γ. second-taken κ γ (name-class y.0 κ e)) (here (omega arith)) (omega arith)) (omega arith)), makes (node_of x.1 y.1 c.put-m-2.ensures) (empty_two c.requires.2 x.0 y.0))

@@ -8,7 +8,7 @@ use Rattle.limits.proofs.SizeMarks.{size-other, size-range}
 use Rattle.limits.proofs.measures.size_at.Goals as goal
 
 pub returns-in-2 : goal.returns-in-2
-returns-in-2 g c = size-range (not (eqb g.row.ON 0)) c.args.code.now c.args.at c.absolute_of.result c.absolute_of-in-2.result c.max.result (ap not (ne_eqb g.row.ON 0 c.if-this-ne0.true)) c.in-2.is c.absolute_of.ensures c.absolute_of-in-2.ensures c.max.ensures
+returns-in-2 g c = size-range (not (eqb g.row.ON 0)) c.args.t.now 0 c.absolute_of.result c.absolute_of-in-2.result c.max.result (ap not (ne_eqb g.row.ON 0 c.if-this-ne0.true)) c.in-2.is c.absolute_of.ensures c.absolute_of-in-2.ensures c.max.ensures
 
 pub returns-in_default-2 : goal.returns-in_default-2
-returns-in_default-2 g c = size-other (not (eqb g.row.ON 0)) c.args.code.now c.args.at (λ e. omega arith)
+returns-in_default-2 g c = size-other (not (eqb g.row.ON 0)) c.args.t.now 0 (λ e. omega arith)

@@ -4,4 +4,4 @@ use Rattle.lowering.proofs.TableWalkPreds.{pred_constant}
 use Rattle.lowering.proofs.leaves.constant.Goals as goal
 
 pub returns : goal.returns
-returns c = λ s T W z. pred_constant c.args.code.now c.args.end s c.requires.inside c.requires.far T W z c.args.out.now c.requires.fits _ _ c.look-a.result c.truth_of.result c.requires.shape c.look-a.ensures c.truth_of.ensures c.set_node.ensures refl refl
+returns c = λ s T W z. pred_constant c.args.code.now c.args.end s c.requires.inside c.requires.far T W z c.args.out.now c.requires.fits _ _ _ c.truth_of.result c.requires.shape refl c.truth_of.ensures c.set_node.ensures refl refl

@@ -4,4 +4,4 @@ use Rattle.lowering.proofs.TableWalkTerms.{term-number}
 use Rattle.lowering.proofs.leaves.number.Goals as goal
 
 pub returns : goal.returns
-returns c = λ s T W z. term-number c.args.code.now c.args.end s c.requires.inside c.requires.far T W z c.args.out.now c.requires.fits _ _ c.look-a.result c.requires.shape c.look-a.ensures c.set_node.ensures refl refl
+returns c = λ s T W z. term-number c.args.code.now c.args.end s c.requires.inside c.requires.far T W z c.args.out.now c.requires.fits _ _ _ c.requires.shape refl c.set_node.ensures refl refl

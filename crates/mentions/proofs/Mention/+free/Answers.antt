@@ -1,8 +1,7 @@
 -- The functions of `mentions` that walk down the nodes, and call each other, meet their contracts: where the parts are free, so is the node. The measure is where the nodes end. Assumes nothing.
 use mathlib.Core.Path.{sym, ◌∙◌}
 use native.Mathlib.Omega.{arith}
-use borrow.Author.Tests.{lt-leb, not-false}
-use Rattle.evaluator.proofs.NodeLaws.{unequal}
+use borrow.Author.Tests.{lt-leb, not-false, ne_eqb}
 use Rattle.mentions.proofs.FreeNodes as nodes
 use Rattle.mentions.proofs.FreeTruths as truths
 use Rattle.mentions.proofs.Mention.+free.Goals as goal
@@ -42,7 +41,7 @@ pub free_pred-returns-then-end-ge-TWO_NODES : goal.free_pred-returns-then-end-ge
 free_pred-returns-then-end-ge-TWO_NODES t c = record { means = λ e. truths.quantifier-free c.in-24.is (c.free_pred-then-end-ge-TWO_NODES.ensures.means e) }
 
 pub free_pred-returns-in_default : goal.free_pred-returns-in_default
-free_pred-returns-in_default t c = record { means = λ e. truths.asked-free (unequal c.in_default.in_default-own.rest.0.0.0.0.1) (unequal c.in_default.in_default-own.rest.0.0.0.1) (unequal c.in_default.in_default-own.rest.0.0.1) (unequal c.in_default.in_default-own.rest.0.1) (unequal c.in_default.in_default-own.rest.1) (c.free_asked.ensures.means e) }
+free_pred-returns-in_default t c = record { means = λ e. truths.asked-free (ne_eqb _ _ c.in_default.in_default-own.rest.0.0.0.0.1) (ne_eqb _ _ c.in_default.in_default-own.rest.0.0.0.1) (ne_eqb _ _ c.in_default.in_default-own.rest.0.0.1) (ne_eqb _ _ c.in_default.in_default-own.rest.0.1) (ne_eqb _ _ c.in_default.in_default-own.rest.1) (c.free_asked.ensures.means e) }
 
 pub free_term-returns-then-not-inside : goal.free_term-returns-then-not-inside
 free_term-returns-then-not-inside t c = record { means = λ e. nodes.refused e }
@@ -60,16 +59,13 @@ pub free_term-returns-in-2 : goal.free_term-returns-in-2
 free_term-returns-in-2 t c = nodes.slot-says c.in-2.is (omega arith) c.from.ensures
 
 pub free_term-returns-in-3 : goal.free_term-returns-in-3
-free_term-returns-in-3 t c = record { means = λ e. nodes.prefix-free c.in-3.is (c.free_term.ensures.means e) }
-
-pub free_term-returns-in-4 : goal.free_term-returns-in-4
-free_term-returns-in-4 t c = record { means = λ e. nodes.division-free c.in-4.is (c.free_term-in-4.ensures.means e) }
+free_term-returns-in-3 t c = record { means = λ e. nodes.alone-free (omega arith) (omega arith) (c.free_term-in-3.ensures.means e) }
 
 pub free_term-returns-then-end-ge-TWO_NODES : goal.free_term-returns-then-end-ge-TWO_NODES
 free_term-returns-then-end-ge-TWO_NODES t c = record { means = λ e. nodes.such-free c.in-6.is (c.free_pred.ensures.means e) }
 
 pub free_term-returns-in_default : goal.free_term-returns-in_default
-free_term-returns-in_default t c = record { means = λ e. nodes.brace-free (unequal c.in_default.in_default-own.rest.0.0.0.0.0.1) (unequal c.in_default.in_default-own.rest.0.0.0.0.1) (unequal c.in_default.in_default-own.rest.0.0.0.1) (unequal c.in_default.in_default-own.rest.0.0.1) (unequal c.in_default.in_default-own.rest.0.1) (unequal c.in_default.in_default-own.rest.1) (c.free_items.ensures.means e) }
+free_term-returns-in_default t c = record { means = λ e. nodes.brace-free (ne_eqb _ _ (omega arith)) (ne_eqb _ _ (omega arith)) (ne_eqb _ _ (omega arith)) (ne_eqb _ _ (omega arith)) (ne_eqb _ _ (omega arith)) (ne_eqb _ _ (omega arith)) (c.free_items.ensures.means e) }
 
 pub free_part-free_term-requires : goal.free_part-free_term-requires
 free_part-free_term-requires t c = omega (arith, c.in-Some.ensures.before)
@@ -84,7 +80,7 @@ pub free_term-free_part-requires : goal.free_term-free_part-requires
 free_term-free_part-requires t c = let w = c.inside.ensures c.if-not-inside.false in (omega arith, (w, omega arith, omega arith))
 
 pub free_term-returns-then-free_part : goal.free_term-returns-then-free_part
-free_term-returns-then-free_part t c = record { means = λ e. (let w = c.free_part.ensures.means c.if-free_part.true in nodes.operator-free c.in-5.is w.earlier w.free (c.free_term-then-free_part.ensures.means e)) }
+free_term-returns-then-free_part t c = record { means = λ e. (let w = c.free_part.ensures.means c.if-free_part.true in nodes.operator-free c.in-5.is w.earlier w.free (c.free_term.ensures.means e)) }
 
 pub free_term-returns-else-free_part : goal.free_term-returns-else-free_part
 free_term-returns-else-free_part t c = record { means = λ e. nodes.refused (sym c.if-free_part.false ∙ e) }
@@ -105,7 +101,7 @@ pub free_items-free_part-requires-in_default : goal.free_items-free_part-require
 free_items-free_part-requires-in_default t c = let w = c.inside.ensures c.if-not-inside.false in (omega arith, (w, omega arith, omega arith))
 
 pub free_items-returns-then-free_part : goal.free_items-returns-then-free_part
-free_items-returns-then-free_part t c = record { means = λ e. (let w = c.free_part.ensures.means (not-false _ c.if-not-free_part.false-raw) in let v = c.free_part-in_default.ensures.means c.if-free_part.true in nodes.more-pairs-free (unequal c.if-shape-eq-LAST_ITEM.false) (unequal c.in_default.in_default-own.rest.0.1) (unequal c.in_default.in_default-own.rest.1) w.earlier w.free v.earlier v.free (c.free_items-then-free_part.ensures.means e)) }
+free_items-returns-then-free_part t c = record { means = λ e. (let w = c.free_part.ensures.means (not-false _ c.if-not-free_part.false-raw) in let v = c.free_part-in_default.ensures.means c.if-free_part.true in nodes.more-pairs-free (ne_eqb _ _ c.if-shape-eq-LAST_ITEM.false) (ne_eqb _ _ c.in_default.in_default-own.rest.0.1) (ne_eqb _ _ c.in_default.in_default-own.rest.1) w.earlier w.free v.earlier v.free (c.free_items-then-free_part.ensures.means e)) }
 
 pub free_items-returns-else-free_part : goal.free_items-returns-else-free_part
 free_items-returns-else-free_part t c = record { means = λ e. nodes.refused (sym c.if-free_part.false ∙ e) }
@@ -153,7 +149,7 @@ pub free_asked-returns-then-free_part-3 : goal.free_asked-returns-then-free_part
 free_asked-returns-then-free_part-3 t c =
     elim c.if-free_part-2.branch [
       | free_asked-then-free_part-2 w ↦
-          record { means = λ e. (let u = c.free_part-in_default.ensures.means w.if-free_part-2.true in let v = w.free_part-then-free_part-2.ensures.means (sym w.value-is ∙ c.if-free_part-3.true) in truths.related-free (unequal c.in_default.in_default-own.rest.0.1) (unequal c.in_default.in_default-own.rest.1) u.earlier u.free v.earlier v.free (c.free_term-then-free_part-3.ensures.means e)) }
+          record { means = λ e. (let u = c.free_part-in_default.ensures.means w.if-free_part-2.true in let v = w.free_part-then-free_part-2.ensures.means (sym w.value-is ∙ c.if-free_part-3.true) in truths.related-free (ne_eqb _ _ c.in_default.in_default-own.rest.0.1) (ne_eqb _ _ c.in_default.in_default-own.rest.1) u.earlier u.free v.earlier v.free (c.free_term-then-free_part-3.ensures.means e)) }
       | free_asked-else-free_part-2 w ↦ nodes.refused (sym w.if-free_part-2.false ∙ sym w.value-is ∙ c.if-free_part-3.true)
     ]
 

@@ -1,7 +1,8 @@
 -- `passes::variables_of` meets its contract. Assumes nothing.
 use lib.Seq.{length-take-le}
 use mathlib.Core.Path.{◌∙◌, refl, sym}
-use Rattle.names.proofs.PassSteps.{no-heading, part-tail}
+use Rattle.std.proofs.lemmas.List.{take_rest}
+use Rattle.names.proofs.PassSteps.{no-heading}
 use Rattle.names.proofs.WholePass.{variables-short, variables-seen}
 use Rattle.names.proofs.passes.variables_of.Goals as goal
 
@@ -12,4 +13,4 @@ pub slice_bounds-result-end : goal.slice_bounds-result-end
 slice_bounds-result-end c = sym (length-take-le _ _ c.declared_end-e.ensures.within)
 
 pub returns : goal.returns
-returns c = variables-seen c.args.code.now _ _ c.declared_end-e.result c.declared_end-e.ensures (c.in-Some.ensures.lookup.0.2 ∙ part-tail c.args.code.now 4) refl
+returns c = variables-seen c.args.code.now _ _ c.declared_end-e.result c.declared_end-e.ensures (c.in-Some.ensures.lookup.0.2 ∙ take_rest c.args.code.now 4) refl

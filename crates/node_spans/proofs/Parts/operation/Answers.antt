@@ -12,3 +12,6 @@ returns-clause-middle c = c.operation_spans.ensures.middle
 
 pub returns-clause-end : goal.returns-clause-end
 returns-clause-end c = c.operation_spans.ensures.end
+
+pub returns-clause-small : goal.returns-clause-small
+returns-clause-small c = c.operation_spans.ensures.small

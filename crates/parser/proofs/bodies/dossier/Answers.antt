@@ -1,12 +1,8 @@
 -- `bodies::dossier` meets its contract.
-use borrow.Author.Rules.{rules}
 use native.Mathlib.Omega.{arith}
 use Rattle.form_nodes.proofs.ReadParts.{exits, next, known}
 use Rattle.parser.proofs.BodyNodes.{sequence-known, contents-known, dossier-made, whole_run, text-ends, text-goes-on}
 use Rattle.parser.proofs.bodies.dossier.Goals as goal
-
-pub bodies-requires : goal.bodies-requires
-bodies-requires c = search rules
 
 pub returns-then-read-y : goal.returns-then-read-y
 returns-then-read-y c = let h = (known c.in_ok-listed.was c.contents.ensures.0) in let i = next h (known c.in_ok-read.was c.bodies.ensures.0) in record { exact = text-goes-on i (omega arith); ended = omega arith; made = tt }

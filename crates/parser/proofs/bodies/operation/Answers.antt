@@ -8,7 +8,7 @@ use Rattle.lexical.specs.Kinds.{code_of}
 use Rattle.declarations.specs.DossierPromises.{a_condition_to}
 use Rattle.form_nodes.proofs.ReadParts.{exits, next, fails, framed, known, counted}
 use Rattle.form_nodes.proofs.NodesOfParts.{made}
-use Rattle.declarations.proofs.ListNodes.{closed}
+use Rattle.form_nodes.proofs.NodesOfParts.{closed}
 use Rattle.parser.proofs.BodyNodes.{operation-made}
 use Rattle.lexical.specs.Kinds as kind
 use Rattle.parser.proofs.bodies.operation.Goals as goal

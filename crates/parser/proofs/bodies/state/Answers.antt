@@ -10,7 +10,7 @@ use Rattle.declarations.specs.DossierPromises.{a_typed, a_condition_to}
 use Rattle.form_nodes.proofs.ReadParts.{exits, next, fails, framed, known, counted}
 use Rattle.form_nodes.proofs.NodesOfParts.{made}
 use Rattle.form_nodes.proofs.RightSides.{inside}
-use Rattle.declarations.proofs.ListNodes.{closed}
+use Rattle.form_nodes.proofs.NodesOfParts.{closed}
 use Rattle.parser.proofs.BodyNodes.{when-known, state-made}
 use Rattle.lexical.specs.Kinds as kind
 use Rattle.parser.proofs.bodies.state.Goals as goal

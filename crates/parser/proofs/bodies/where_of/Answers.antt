@@ -5,7 +5,7 @@ use Rattle.lexical.specs.Kinds.{code_of}
 use Rattle.form.specs.Machine.{exact}
 use Rattle.declarations.specs.DossierPromises.{a_condition_to}
 use Rattle.form_nodes.proofs.ReadParts.{exits, next, fails, framed, known}
-use Rattle.declarations.proofs.ListNodes.{closed}
+use Rattle.form_nodes.proofs.NodesOfParts.{closed}
 use Rattle.parser.proofs.BodyNodes.{where-made}
 use Rattle.lexical.specs.Kinds as kind
 use Rattle.parser.proofs.bodies.where_of.Goals as goal

@@ -20,5 +20,5 @@ returns c =
     let mid = c.group.new.row ++ drop 4 c.args.rows.now in
     let r = take_rest mid 4 in
     let f = ap length r ∙ length-drop 4 mid in
-    operation-put c.span-from.ensures.0 c.span-to.ensures.0 c.group.ensures (front-written 4 c.group.new.row c.args.rows.now (omega arith)) c.group-2.ensures r
+    operation-put c.operation-o.ensures.first c.operation-o.ensures.last c.group.ensures (front-written 4 c.group.new.row c.args.rows.now (omega arith)) c.group-2.ensures r
     (part-written 4 (length mid - 4) mid c.group-2.new.row c.group-2.new.row refl (omega arith)) (omega arith)

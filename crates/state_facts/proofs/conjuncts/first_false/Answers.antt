@@ -2,7 +2,7 @@
 use mathlib.Core.Path.{refl, sym, subst, subst₂, ◌∙◌}
 use mathlib.Core.Bool.{true, false}
 use native.Mathlib.Omega.{arith}
-use Rattle.lexical.proofs.BooleanTests.{clash}
+use borrow.Author.Clash.{clash}
 use Rattle.truths.specs.Promises.{Asked, Answers}
 use Rattle.states.specs.Promises.{RowsAsked}
 use Rattle.states.proofs.RowLaws.{context-rows, row_inside, first-asked, rest-asked, answer-as}
@@ -53,7 +53,7 @@ loop-i-preserved g c = (
       (first_next _ c.loop-i-test.true
       (λ e. elim c.else-counts.branch [
         | else-counts-via-then-counts+else-not-truth w ↦ subst (λ x. Answers c.args.d.now.table.now x c.args.slots.now true) w.from.ensures (answer-as c.loop-i.invariant.1 w.if-not-truth.false w.truth.ensures.answers)
-        | else-counts-via-else-counts w ↦ absurd (clash (q _ _ (row_inside _ _ _ _ _ c.loop-i.invariant.0 c.loop-i-test.true) c.counts.ensures ∙ e) w.if-counts.false)
+        | else-counts-via-else-counts w ↦ clash _ (q _ _ (row_inside _ _ _ _ _ c.loop-i.invariant.0 c.loop-i-test.true) c.counts.ensures ∙ e) w.if-counts.false
       ]) a),
 )
 
@@ -67,7 +67,7 @@ returns g c =
             (first_next _ w.loop-i-test.true
             (λ e. elim w.else-counts.branch [
               | else-counts-via-then-counts+else-not-truth v ↦ subst (λ x. Answers c.args.d.now.table.now x c.args.slots.now true) v.from.ensures (answer-as c.loop-i.invariant.1 v.if-not-truth.false v.truth.ensures.answers)
-              | else-counts-via-else-counts v ↦ absurd (clash (q _ _ (row_inside _ _ _ _ _ c.loop-i.invariant.0 w.loop-i-test.true) w.counts.ensures ∙ e) v.if-counts.false)
+              | else-counts-via-else-counts v ↦ clash _ (q _ _ (row_inside _ _ _ _ _ c.loop-i.invariant.0 w.loop-i-test.true) w.counts.ensures ∙ e) v.if-counts.false
             ])
             (first_done _ (omega arith))));
       }

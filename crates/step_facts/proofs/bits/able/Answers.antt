@@ -2,7 +2,7 @@
 use native.Mathlib.Omega.{arith}
 use Rattle.step_facts.proofs.Masks.{low, abstract-able, concrete-able}
 use mathlib.Core.Path.{ap}
-use Rattle.step_facts.specs.Sides.{is_abstract}
+use Rattle.step_facts.specs.Machines.{is_abstract}
 use Rattle.step_searches.proofs.LentSearches.{asked}
 use Rattle.step_facts.proofs.bits.able.Goals as goal
 

@@ -1,12 +1,13 @@
 -- `differences::differing` meets its contract. Assumes nothing.
 use mathlib.Core.Path.{refl}
 use native.Mathlib.Omega.{arith}
-use Rattle.step_facts.proofs.AskedFacts.{prepare-asked, steps-asked}
+use Rattle.step_searches.proofs.PreparedSearches.{prepare-asked}
+use Rattle.step_facts.proofs.AskedFacts.{steps-asked}
 use Rattle.step_facts.proofs.Places.{place-unlisted, place_is}
 use Rattle.step_searches.proofs.LentParts.{lent, returned}
 use Rattle.memo.proofs.Memos.{blank_memo}
 use Rattle.step_searches.specs.StepPromises.{StepsAsked}
-use Rattle.step_facts.specs.Sides.{is_abstract}
+use Rattle.step_facts.specs.Machines.{is_abstract}
 use Rattle.step_facts.specs.FactPromises.{PlaceAmong}
 use Rattle.step_facts.proofs.differences.differing.Goals as goal
 
@@ -33,4 +34,4 @@ place_among-requires c = record {
 pub returns : goal.returns
 returns c =
     rw (← c.d.view_is) (place_is (omega (arith, c.if-d-j.false)) c.prepare-ready.ensures c.place_among.result
-    (returned (λ t q x p. PlaceAmong t q x p (is_abstract c.args.side) c.place_among.result) c.search.ensures.table c.search.ensures.plan c.search.ensures.cells c.search.ensures.part c.place_among.ensures.found))
+    (returned (λ t q x p. PlaceAmong t q x p (is_abstract c.args.machine) c.place_among.result) c.search.ensures.table c.search.ensures.plan c.search.ensures.cells c.search.ensures.part c.place_among.ensures.found))

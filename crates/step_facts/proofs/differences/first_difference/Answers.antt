@@ -1,7 +1,7 @@
 -- `differences::first_difference` meets its contract. Assumes nothing.
 use Rattle.step_facts.proofs.Places.{narrowed-bit, widened-bit}
 use mathlib.Core.Path.{ap}
-use Rattle.step_facts.specs.Sides.{is_abstract}
+use Rattle.step_facts.specs.Machines.{is_abstract}
 use Rattle.step_facts.proofs.differences.first_difference.Goals as goal
 
 pub first_more-requires : goal.first_more-requires

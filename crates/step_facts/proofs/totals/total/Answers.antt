@@ -1,7 +1,8 @@
 -- `totals::total` meets its contract. Assumes nothing.
 use mathlib.Core.Path.{refl}
 use native.Mathlib.Omega.{arith}
-use Rattle.step_facts.proofs.AskedFacts.{prepare-asked, steps-asked}
+use Rattle.step_searches.proofs.PreparedSearches.{prepare-asked}
+use Rattle.step_facts.proofs.AskedFacts.{steps-asked}
 use Rattle.step_facts.proofs.Counts.{no_total, total-is}
 use Rattle.step_searches.proofs.LentParts.{lent, returned}
 use Rattle.memo.proofs.Memos.{blank_memo}

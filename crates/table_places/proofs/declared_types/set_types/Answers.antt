@@ -4,7 +4,7 @@ use mathlib.Core.List.{◌∷◌, List}
 use Prim.Native.Nat.{◌+◌, ℕ}
 use mathlib.Core.Path.{◌≡◌, refl, subst, ◌∙◌}
 use native.Mathlib.Omega.{arith}
-use Rattle.names.specs.DeclaredNamesPassPromises.{PartOf}
+use Rattle.node_spans.specs.ParserSections.{PartOf}
 use Rattle.names.proofs.DeclaredNamesNodePieces.{place, place-on, whole, ends-on, none-left}
 use Rattle.names.proofs.DeclaredNamesDeclarationNodes.{Walked, walked-on}
 use Rattle.table_places.proofs.WritingTypes.{typing, typing-start, typing-on, types-set, type-behind}
@@ -43,7 +43,7 @@ pub returns : goal.returns
 returns c =
     let code = c.into_iter-k-iterator.result.iter.rest.now in
     let rest = c.loop-k.k-iterator.iter.rest.now in
-    let is : c.part-code.result.now ≡ code = search rules in
+    let is : c.between-code.result.now ≡ code = search rules in
     types-set c.args.s.now.nodes.now c.args.from c.args.to c.args.s.now.names.now c.args.s.now.sizes.now code (place code rest) (c.args.from + place code rest) c.args.out.now c.loop-k.out
-    (subst (λ (l : List ℕ). PartOf c.args.s.now.nodes.now c.args.from c.args.to l) is c.part-code.ensures) c.loop-k.invariant.4
+    (subst (λ (l : List ℕ). PartOf c.args.s.now.nodes.now c.args.from c.args.to l) is c.between-code.ensures) c.loop-k.invariant.4
     (none-left code rest 8 _ c.loop-k.invariant.3 c.in-None.ensures.steps.0.1.0 c.loop-k.invariant.0)

@@ -4,4 +4,4 @@ use Rattle.tables.proofs.WritingContexts.{state-set}
 use Rattle.tables.proofs.passes.set_state.Goals as goal
 
 pub returns : goal.returns
-returns c = state-read c.args.s.now.parts.nodes.now _ _ _ _ _ _ _ _ _ _ c.args.s.now.sizes.now _ _ c.span-first.ensures.0 c.span-last.ensures.0 c.span-end.ensures.0 (state-set c.args.s.now.parts.nodes.now _ _ _ _ c.args.names.now _ _ _ c.args.places.now _ c.args.s.now.sizes.now c.args.out.now _ c.part-variables.ensures c.show.ensures c.set_predicate.ensures c.hide.ensures)
+returns c = state-read c.args.s.now.parts.nodes.now _ _ _ _ _ _ _ _ c.args.s.now.sizes.now _ _ c.span-end.ensures.0 (state-set c.args.s.now.parts.nodes.now _ _ _ _ c.args.names.now _ _ _ c.args.places.now _ c.args.s.now.sizes.now c.args.out.now _ c.variables-variables.ensures c.show.ensures c.set_predicate.ensures c.hide.ensures)

@@ -1,3 +1,4 @@
+-- Form 8: the measure of each walk is one expression at a type of its own, so that a name for what several of them have in common would stand in each line in its place.
 use lib.ListN.{length}
 use Prim.Native.Nat.{◌+◌, ◌*◌}
 use Rattle.typing.proofs.types.+types.Given as goal

@@ -1,11 +1,8 @@
 -- `types::empty_pairs` meets its contract. Assumes nothing.
 use native.Mathlib.Omega.{arith}
-use lib.ListN.{length}
-use Prim.Native.Nat.{◌+◌}
-use Rattle.typing.specs.EndedNodes.{ended}
-use Rattle.typing.proofs.FrontNodes.{ended-shape, ended-node, ended-fits}
+use Rattle.typing.proofs.FrontNodes.{ended-in}
 use Rattle.typing.proofs.TypeWalkTerms.{term-empty-pairs}
 use Rattle.typing.proofs.types.empty_pairs.Goals as goal
 
 pub returns : goal.returns
-returns c = term-empty-pairs (ended c.args.front.now 10 c.args.n) (length c.args.front.now + 4) (ended-fits c.args.front.now 10 c.args.n) c.args.names.now c.args.sizes.now c.args.n _ c.from.result c.from-2.result c.entry-g.result c.entry-h.result c.from-i.result c.element_of.result c.element_of-2.result (ended-node c.args.front.now 10 c.args.n) (ended-shape c.args.front.now 10 c.args.n) (omega arith) c.from.ensures c.from-2.ensures c.entry-g.ensures c.entry-h.ensures c.from-i.ensures c.element_of.ensures c.element_of-2.ensures c.pair_with.ensures c.pairs_fault.ensures
+returns c = term-empty-pairs c.args.names.now c.args.sizes.now _ c.from.result c.from-2.result c.entry-g.result c.entry-h.result c.from-i.result c.element_of.result c.element_of-2.result (ended-in c.args.front.now 10 c.args.n) (omega arith) c.from.ensures c.from-2.ensures c.entry-g.ensures c.entry-h.ensures c.from-i.ensures c.element_of.ensures c.element_of-2.ensures c.pair_with.ensures c.pairs_fault.ensures

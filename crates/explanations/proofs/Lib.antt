@@ -1,2 +1,0 @@
--- Explanations: what the search for a verdict is asked.
-pub mod VerdictSearch

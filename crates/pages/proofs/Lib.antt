@@ -1,2 +1,0 @@
--- Lists with room for so many items.
-pub mod RoomLaws

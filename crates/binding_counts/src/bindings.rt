@@ -1,6 +1,7 @@
 // Number 12: how many bindings the variables of a state have, and the inputs and the outputs of an operation.
 ghost use Rattle.std.specs.Prelude.{◌≡◌, false, ◌&&◌, ◌+◌, ◌-◌, ◌*◌, ◌^◌, ◌≤◌, ◌<◌, leb, length};
 ghost use Rattle.type_rules.specs.TypesByNumber.{fault_key};
+ghost use Rattle.node_spans.specs.StateSpans.{state_first};
 ghost use Rattle.binding_counts.specs.BindingsByNumber.{cap, size_at, TypeCounted, FactorCounted, GroupCounted, HeadingFaulted, StateBound, OperationBound, OperationsBound, BindingsSeen};
 
 use form::name_endings::{INPUT, OUTPUT, PLAIN};
@@ -8,6 +9,7 @@ use form::{node, shapes};
 use lexical::bounds::{PARAMETER_BINDINGS, STATE_BINDINGS};
 use lexical::endings;
 use names::SIZES;
+use node_spans::span::State;
 use node_spans::{Parts, span};
 use refusals::{Fault, Refusal};
 use type_rules::entries::Kind;
@@ -79,10 +81,7 @@ fn type_count(t: &[u16], limit: Limit, g: &Sets<'_>) -> u32
 }
 
 // What a declared name adds to the product: nothing, where it has another ending.
-// Form 5: `chunks_exact` lends slices, of whose length only the cut speaks. `as_chunks` lends arrays, but then the walk goes over a list of these, while the
-// laws of nodes (`NodePieces`) and the promise of `group` speak of the list of their numbers: one law more that says of both walks that they are the same.
-fn factor(d: &[u16], ending: u16, limit: Limit, g: &Sets<'_>) -> u32
-    requires { length d.now ≡ 8 }
+fn factor(d: &[u16; node::DECLARATION], ending: u16, limit: Limit, g: &Sets<'_>) -> u32
     ensures { FactorCounted d.now 0 ending limit.most g.now.names.now g.now.sizes.now result }
 {
     if d[node::A] % endings::COUNT == ending {
@@ -97,7 +96,7 @@ fn group(code: &[u16], ending: u16, limit: Limit, g: &Sets<'_>) -> u32
     ensures { GroupCounted code.now ending limit.most g.now.names.now g.now.sizes.now result }
 {
     let mut n: u32 = 1;
-    for d in code.chunks_exact(node::DECLARATION) {
+    for d in code.as_chunks::<{ node::DECLARATION }>().0 {
         n = product(limit, n, factor(d, ending, limit, g));
     }
     n
@@ -115,19 +114,18 @@ fn heading_fault(nodes: &[u16], from: usize) -> Option<Fault>
     })
 }
 
-// The state whose variables stand from the span k on.
-fn state(p: &Parts<'_>, k: usize, g: &Sets<'_>) -> Option<Fault>
-    requires { k < 80 }
-    ensures { StateBound p.now.nodes.now p.now.spans.now k g.now.names.now g.now.sizes.now (fault_key result) }
+// A state.
+fn state(p: &Parts<'_>, state: State, g: &Sets<'_>) -> Option<Fault>
+    ensures { StateBound p.now.nodes.now p.now.spans.now (state_first state) g.now.names.now g.now.sizes.now (fault_key result) }
 {
     let limit = Limit {
         most: STATE_BINDINGS,
     };
-    let n = group(p.variables(k), PLAIN, limit, g);
+    let n = group(p.variables(state), PLAIN, limit, g);
     if n <= STATE_BINDINGS {
         return None;
     }
-    heading_fault(p.nodes, p.span(k))
+    heading_fault(p.nodes, p.span(state.first()))
 }
 
 fn both_few(n: u32, m: u32) -> bool
@@ -171,8 +169,8 @@ pub fn bindings(p: &Parts<'_>, names: &[Kind], sizes: &[u16; SIZES]) -> Option<F
     ensures { BindingsSeen p.now.nodes.now p.now.spans.now p.now.operations names.now sizes.now (fault_key result) }
 {
     let g = Sets { names, sizes };
-    let a = state(p, span::ABSTRACT_FIRST, &g);
-    let c = state(p, span::CONCRETE_FIRST, &g);
+    let a = state(p, State::Abstract, &g);
+    let c = state(p, State::Concrete, &g);
     let o = all_operations(p, &g);
     lesser_of(a, lesser_of(c, o))
 }

@@ -1,2 +1,2 @@
--- Lists with room for so many bytes.
+-- Lists with room for so many items.
 pub mod RoomLaws

@@ -1,14 +1,12 @@
--- Words that are stored behind the first bytes of an array, as many of them as there is room for. Assumes nothing.
-use Rattle.std.proofs.Common.{◌≡◌, sym, ap, ◌∙◌, arith, ℕ, ◌+◌, ◌-◌, ◌≤◌, List, ◌++◌, length, take}
-use Rattle.std.proofs.lemmas.List.{length-take-le}
-use Rattle.std.proofs.lemmas.Slice.{take-put_mid}
+-- Items behind others, as many of them as there is room for. Assumes nothing.
+use Rattle.std.proofs.Common.{◌≡◌, sym, ap, ◌∙◌, arith, ℕ, ◌+◌, List, ◌++◌, length, take, min, Result, Ok, Err, IsOk, OnOk, true≢false}
+use Rattle.std.proofs.lemmas.List.{take_min}
 use Rattle.std.proofs.Math.Seq.{take-append-add}
-use borrow.Rule.Slice.PartMut.{put_mid}
 
-pub room-behind : {A : Type 0} (n a : ℕ) (xs w : List A) → a ≤ n → a ≤ length xs → take a xs ++ take (n - a) w ≡ take n (take a xs ++ w)
-room-behind n a xs w l h =
-    let e : length (take a xs) + (n - a) ≡ n = omega (arith, length-take-le a xs h) in
-    sym (take-append-add (take a xs) w (n - a)) ∙ ap (λ (m : ℕ). take m (take a xs ++ w)) e
+pub room-behind : {A : Type 0} (n r m : ℕ) (xs w : List A) → r + length xs ≡ n → m ≡ min r (length w) → xs ++ take m w ≡ take n (xs ++ w)
+room-behind n r m xs w e f =
+    ap (λ (k : ℕ). xs ++ take k w) f ∙ ap (λ z. xs ++ z) (take_min r w) ∙ sym (take-append-add xs w r) ∙ ap (λ (k : ℕ). take k (xs ++ w)) (omega (arith, e))
 
-pub stored : {A : Type 0} (n a m k : ℕ) (xs ys w : List A) → a ≤ n → a ≤ length xs → m ≡ length ys → ys ≡ take (n - a) w → take (a + m) (put_mid a k xs ys) ≡ take n (take a xs ++ w)
-stored n a m k xs ys w l h e f = take-put_mid a k xs ys (a + m) (omega arith) h ∙ ap (λ z. take a xs ++ z) f ∙ room-behind n a xs w l h
+pub at-ok : {T E P : Type 0} (r : Result T E) → IsOk r → OnOk r P → P
+at-ok (Ok x) _ p = p
+at-ok (Err e) h _ = absurd (true≢false (sym h))

@@ -3,38 +3,34 @@
 
 ghost use Rattle.std.specs.Prelude.{◌≡◌, [], ◌∷◌, ◌++◌, ◌<◌, ◌≤◌, length, take, set, replicate, ◌+◌, min};
 
+use arrayvec::ArrayVec;
 use std::marker::Model;
 
-// The first `len` items are those that are stored.
-// Form 6: an array with a length beside it needs no heap, which the programs do without, and so `new`, `put` and `put_all` cannot fail. `ArrayVec` of the kit has no heap either, and leaves out
-// what has no room by `try_push` and `extend`; but `extend` pushes one item after the other, where `put_all` copies at once, and for n bytes at a place (`insert`) it has no call.
+// The kit's `ArrayVec`, which hands back what has no room; here that is left out.
 #[derive(Drop)]
 pub struct Bounded<T, const N: usize> {
-    items: [T; N],
-    len: usize,
+    items: ArrayVec<T, N>,
 }
 
 // Bytes of a text.
 pub type BoundedText<const N: usize> = Bounded<u8, N>;
 
 impl<T, const N: usize> Model for Bounded<T, N> {
-    ghost use Rattle.std.specs.Prelude.{List, take, ◌≤◌};
+    ghost use Rattle.std.specs.Prelude.{List, length, ◌≤◌};
 
     ghost Value = { List T };
 
-    ghost view = { λ t. take t.len t.items };
+    ghost view = { λ t. t.items.items };
 
-    ghost invariant = { λ t. t.len ≤ N };
+    ghost invariant = { λ t. length t.items.items ≤ N };
 }
 
 impl<T: Copy + Default, const N: usize> Bounded<T, N> {
     pub fn new() -> Self
         ensures { result ≡ [] }
     {
-        Bounded {
-            items: [T::default(); N],
-            len: 0,
-        }
+        let items = ArrayVec::new();
+        Bounded { items }
     }
 
     // What is stored.
@@ -42,27 +38,22 @@ impl<T: Copy + Default, const N: usize> Bounded<T, N> {
         ensures value { result.now ≡ self.now }
         ensures within { length result.now ≤ N }
     {
-        &self.items[..self.len]
+        self.items.as_slice()
     }
 
     // One item.
     pub fn put(&mut self, x: T)
         ensures { self.new ≡ take N (self.old ++ x ∷ []) }
     {
-        if self.len < N {
-            self.items[self.len] = x;
-            self.len += 1;
-        }
+        let _ = self.items.try_push(x);
     }
 
     // All of some items.
     pub fn put_all(&mut self, words: &[T])
         ensures { self.new ≡ take N (self.old ++ words.now) }
     {
-        let end = self.len + words.len().min(N - self.len);
-        let items = &mut self.items[..];
-        items[self.len..end].copy_from_slice(&words[..end - self.len]);
-        self.len = end;
+        let n = words.len().min(self.items.remaining_capacity());
+        let _ = self.items.try_extend_from_slice(&words[..n]);
     }
 }
 
@@ -71,10 +62,9 @@ impl<const N: usize> Bounded<u8, N> {
     pub fn repeat(&mut self, b: u8, n: usize)
         ensures { self.new ≡ take N (self.old ++ replicate n b) }
     {
-        let end = self.len + n.min(N - self.len);
-        let bytes = &mut self.items[..];
-        bytes[self.len..end].fill(b);
-        self.len = end;
+        for _ in 0..n.min(self.items.remaining_capacity()) {
+            self.items.push(b);
+        }
     }
 
     // Another byte at a place.
@@ -91,11 +81,10 @@ impl<const N: usize> Bounded<u8, N> {
         ensures front { take k self.new ≡ take k self.old }
         ensures grows { length self.new ≡ min N (length self.old + n) }
     {
-        let end = self.len + n.min(N - self.len);
-        let m = n.min(end - k);
-        let bytes = &mut self.items[..];
-        bytes[k..end].rotate_right(m);
-        bytes[k..k + m].fill(b);
-        self.len = end;
+        let m = n.min(self.items.capacity() - k);
+        self.repeat(b, n);
+        let behind = &mut self.items[k..];
+        behind.rotate_right(m);
+        behind[..m].fill(b);
     }
 }

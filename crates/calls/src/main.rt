@@ -107,8 +107,10 @@ impl<W: Write> Session<'_, W> {
         let mut line = [0u8; FIRST_LINE];
         let held: &[u8; HELD] = self.held;
         let text = before(&held[TEXT..], length_in(held));
-        let n = refuted_line(text, o, &mut line);
-        self.print(before(&line, n))
+        match refuted_line(text, o, &mut line) {
+            Some(n) => self.print(before(&line, n)),
+            None => Ok(()),
+        }
     }
 
     fn verdict(&mut self) -> io::Result<()> {

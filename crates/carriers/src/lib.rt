@@ -45,6 +45,8 @@ fn room(f: Functions, n: u32, m: u32) -> bool
 
 // The k-th set of n rows of m bits, each with one bit at most and as many at least as the functions ask: the digits of k say which bit, the first row's the
 // lowest.
+// Form 1: where a set cannot hold the pairs it is the empty function, and `count_at` counts that one: no value is missing, and with an Option each of the public functions over them
+// would turn `None` back into these numbers, which they promise.
 fn mask_at(f: Functions, n: u32, m: u32, k: u32) -> u16
     ensures { (least_of f ≤ m → n * m ≤ 16 → result ≡ mask_at (least_of f) n m k) × (16 < n * m → result ≡ 0) × (m < least_of f → result ≡ 0) }
 {
@@ -80,6 +82,7 @@ pub fn total_mask(n: u32, m: u32, k: u32) -> u16
 }
 
 // How many sets of n rows of m bits there are, each row with one bit at most and as many at least as the functions ask.
+// Form 1: as `mask_at`.
 fn count_at(f: Functions, n: u32, m: u32) -> u32
     ensures { (least_of f ≤ m → n * m ≤ 16 → result ≡ choices (least_of f) m ^ n) × (16 < n * m → result ≡ 1) × (m < least_of f → result ≡ 1) }
 {

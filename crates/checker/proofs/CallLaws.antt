@@ -10,11 +10,12 @@ use Rattle.obligations.specs.Report.{check_at}
 use Rattle.obligations.specs.Calls as calls
 use Rattle.obligations.specs.Calls.{Verdict, unfinished, accepted, refuted, Held, nothing, holding, Call, load, advance, verdict, witness, release, Outcome, outcome, loading, respond}
 use Rattle.obligations.proofs.PlainCalls.{drops}
-use Rattle.std.specs.Prelude.{Result, Ok, Err, IsErrAnd, Option, Some, None}
+use Rattle.std.specs.Prelude.{Result, Ok, Err, IsErrAnd, Option}
 use Rattle.std.specs.Option.{ok_or}
 use Rattle.std.specs.Result.{result_ok}
 use Rattle.held_checks.specs.declared.LoadRefusal.{LoadRefusal}
 use Rattle.held_checks.specs.declared.LoadRefusal.TheVariants.{Faulty}
+use Rattle.refusals.proofs.MissingValues.{unmet}
 use Rattle.refusals.specs.RefusalNames.{fault_is}
 use Rattle.refusals.specs.declared.Fault.{Fault}
 use Rattle.refusals.specs.declared.Refusal as name
@@ -129,19 +130,7 @@ module _ {b table rows firsts groups labels : List ℕ} {r : Option opened.Opene
   pub opened-not : {k : name.Refusal} → x ≡ Err k → held_by b ≡ nothing
   opened-not f = (subst (Opens b table rows firsts groups labels) (e ∙ ap result_ok f) h).answer
 
-abbrev refusal_or : name.Refusal → Result opened.Opened name.Refusal → name.Refusal
-refusal_or n (Ok o) = n
-refusal_or n (Err k) = k
-
-abbrev IsRefused : Result opened.Opened name.Refusal → Type 0
-IsRefused (Ok o) = ⊥
-IsRefused (Err k) = Unit {0}
-
-refused-so : (r : Option opened.Opened) {k n : name.Refusal} → Err k ≡ ok_or r n → k ≡ n
-refused-so None {k} e = ap (refusal_or k) e
-refused-so (Some o) {k} e = absurd (subst IsRefused e tt)
-
 pub refused-as : {A : Type 0} (r : Option opened.Opened) {x : Result opened.Opened name.Refusal} {k n : name.Refusal} (y : Result A name.Refusal) → IsErrAnd y (λ (l : name.Refusal). l ≡ k) → x ≡ Err k → x ≡ ok_or r n
     → y ≡ Err n
 refused-as r (Ok a) f e g = absurd f
-refused-as r (Err l) f e g = ap Err (f ∙ refused-so r (sym e ∙ g))
+refused-as r (Err l) f e g = ap Err (f ∙ unmet r (sym g ∙ e))

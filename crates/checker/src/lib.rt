@@ -113,7 +113,9 @@ pub fn verdict(held: &[u8; HELD]) -> Result<Verdict, Refusal>
     Ok(Verdict::Refuted(obligation_of(f.part)))
 }
 
-// The lines of the binding before the place of a held text, in bytes of their own.
+// The lines of the binding before the place of a held text, in bytes of their own, and their length.
+// Form 6: `witness` copies the lines into what it is lent where they fit, and is told their length; a slice of `out` handed back would say the same length, and the promise of
+// `put_witness` would be brought over to it.
 fn put_last(a: &Arrays, o: Opened<'_>, out: &mut [u8; WITNESS]) -> usize
     requires { LastAsked o.text.now a.now.labels a.now.table a.now.groups o.operations o.place }
     ensures { LastWritten o.entry.text.now a.now.labels a.now.table a.now.groups o.entry.operations o.entry.place out.new result }

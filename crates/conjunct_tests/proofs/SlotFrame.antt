@@ -25,11 +25,10 @@ use Rattle.evaluation.proofs.MeaningDistinct.{every_map}
 use Rattle.evaluation.proofs.MeaningFrame.{frame-pred}
 use Rattle.search_groups.specs.TableNodesTableByNumber.{next_slot}
 use Rattle.evaluation.specs.TablePlacesResolvedTable.{Slots, slot_of}
-use Rattle.search_groups.specs.Conjuncts.{used_term, used_items, used_pairs, used_pred}
+use Rattle.search_groups.specs.Conjuncts.{slot_list, used_term, used_items, used_pairs, used_pred}
 use Rattle.evaluation.specs.EvaluationByNumber.{Values}
 use Rattle.evaluation.specs.SlotValues.{Slotted, Held}
 use Rattle.conjunct_tests.specs.ConjunctTests.{Agree, agree_none, agree_more}
-use Rattle.search_groups.proofs.ConjunctSlots.{list_of}
 use Rattle.search_groups.proofs.ScopePlaces.{slot-here, slot-there}
 
 -- ---- a name that is mentioned, and found among the slots, has its slot among those used
@@ -73,7 +72,7 @@ module _ (y : Name) (w : Name × ℕ) where
 
   name-slot : (x : Name) (W : Slots) (s : ℕ) → slot_of W y ≡ some w → y ≡ x → Among w.1 (used_term (name x) W s)
   unfolding used_term Among
-  name-slot x W s f e = subst (λ (o : Option (Name × ℕ)). Among w.1 (list_of o)) (sym f ∙ ap (slot_of W) e) (inl refl)
+  name-slot x W s f e = subst (λ (o : Option (Name × ℕ)). Among w.1 (slot_list o)) (sym f ∙ ap (slot_of W) e) (inl refl)
 
   -- under a binder
   bound-slot : (x : Letters) (p : Pred) (W : Slots) (s : ℕ) → slot_of W y ≡ some w

@@ -93,11 +93,13 @@ fn bracket_among<I: Iterator<Item = usize> + Drop>(
 }
 
 // Back to the n-th bracket that opens.
+// Form 1: where there is none, the text's first symbol, and in `closed` what is behind the last: what there is of the conjunct is shown then; with an Option nothing of it would be.
 fn opened(y: &Symbols<'_>, first: usize, n: usize) -> usize {
     bracket_among(y, (0..=first).rev(), first, Bracket::Open, n).unwrap_or(0)
 }
 
 // On to the n-th bracket that closes.
+// Form 1: as `opened`.
 fn closed(y: &Symbols<'_>, last: usize, n: usize) -> usize {
     bracket_among(y, last..SYMBOLS, last, Bracket::Close, n).unwrap_or(last.max(SYMBOLS))
 }

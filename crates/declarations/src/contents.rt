@@ -1,7 +1,9 @@
 // The contents of a dossier, given sets and declarations: numbers 4 and 6 of document 01, and their nodes.
 // Form 5: a value of the symbols, the lent nodes and what is read, with `Room` as its invariant, would be changed by each function: one that refuses
 // would have to show the invariant of what it leaves half read, and a promise would name its fields before and after for what was read and the answer.
-ghost use Rattle.std.specs.Prelude.{◌≡◌, [], ◌∷◌, ◌++◌, ◌+◌, ◌*◌, ◌≤◌, ◌<◌, length, get_or};
+// Form 5: that a name stands behind the word (`given`; `operation` of parser, `such` of expressions) the caller has tested, here by `title`. A type of places
+// with a name behind them would hold the symbols too, a field and a lifetime more, and say nothing of the word in front, which is another in each of the three.
+ghost use Rattle.std.specs.Prelude.{◌≡◌, [], ◌∷◌, ◌++◌, ◌+◌, ◌*◌, ◌≤◌, length, get_or};
 ghost use Rattle.lexical.specs.Kinds as kind;
 ghost use Rattle.form.specs.Written.{an_element, a_variable};
 ghost use Rattle.form.specs.Machine.{exact, a_declared, a_type, a_type_rest, a_dossier, some_bodies, some_elements, some_declarations, some_operations, some_parameters};
@@ -12,9 +14,9 @@ ghost use Rattle.declarations.specs.DossierPromises.{EntriesRead, Few, Titled, f
 
 use form::shapes;
 use form_nodes::kinds::kind_at;
-use form_nodes::nodes::{name_number, put, put_range};
+use form_nodes::nodes::{name_number, put_range};
 use form_nodes::ranges::{close, range};
-use form_nodes::{Read, Symbols};
+use form_nodes::{Read, Symbols, no_dossier};
 use lexical::codes::is_name;
 use lexical::{bounds, codes};
 use refusals::{Fault, Refusal};
@@ -37,16 +39,14 @@ pub fn title(s: &[u8], at: usize, k: u8, limit: u8) -> Result<(), Fault>
     ensures { Titled s.now at k limit result }
 {
     if kind_at(s, at) != codes::PLAIN {
-        return Err(Fault {
-            place: at,
-            refusal: Refusal::NoDossier,
-        });
+        return Err(no_dossier(at));
     }
     few(at, k, limit)
 }
 
 // `word NAME` again and again, at most as many as the limit; a node of the shape for each.
-// Form 3: an entry is two symbols, and the place of a wrong one or of one too many is a fault of the form.
+// Form 3: an entry is two symbols, and the place of a wrong one or of one too many is a fault of the form. Over `chunks(2)` and `take_while` the place is
+// `from.at + 2 * k`, after a walk of its own, and the rest is as at `elements`: no shorter.
 fn entries(
     y: &Symbols<'_>,
     from: Read,
@@ -61,14 +61,10 @@ fn entries(
     let mut read = from;
     let mut k: u8 = 0;
     while kind_at(y.kinds, read.at) == word {
-        let name = read.at + 1;
-        title(y.kinds, name, k, limit)?;
-        let x = name_number(y.kinds, y.values, name);
-        let count = put(code, read.count, shape, name, x, 0);
-        read = Read {
-            at: name + 1,
-            count,
-        };
+        let name = read.skip();
+        title(y.kinds, name.at, k, limit)?;
+        let x = name_number(y.kinds, y.values, name.at);
+        read = name.skip().with_node(code, shape, name.at, x, 0);
         k += 1;
     }
     Ok(read)
@@ -112,7 +108,9 @@ pub fn contents(y: &Symbols<'_>, code: &mut [u16]) -> Result<Read, Fault>
 }
 
 // The elements of a given set, one or more, up to its `end`.
-// Form 3: the place behind the last element is what is read, and that of the ninth is the fault.
+// Form 3: over `(0..).zip(y.kinds[from.at..].iter().take_while(|c| **c == codes::PLAIN))` the loop would say `k` alone, and the symbol that it takes is unread:
+// the number and the node ask for its place. The place would be `from.at + k`, after a walk of its own over the symbols, past the ninth too,
+// which is the fault; the count of numbers is set in each turn all the same, and the `Read` is made behind the loop: no shorter than these.
 fn elements(y: &Symbols<'_>, from: Read, code: &mut [u16]) -> Result<Read, Fault>
     requires { Room y.now.kinds.now code.old from.at from.count }
     ensures { Reads y.now.kinds.now from.at from.count (a_declared (an_element 1) ∷ some_elements 1 ∷ []) (exact kind.END ∷ []) result × Made y.now.kinds.now y.now.values.now part.some_elements from.at from.count code.old code.new result × When (get_or y.now.kinds.now from.at 0 ≡ 2) result }
@@ -123,11 +121,7 @@ fn elements(y: &Symbols<'_>, from: Read, code: &mut [u16]) -> Result<Read, Fault
     while kind_at(y.kinds, read.at) == codes::PLAIN {
         few(read.at, k, bounds::ELEMENTS)?;
         let x = name_number(y.kinds, y.values, read.at);
-        let count = put(code, read.count, shapes::ELEMENT, read.at, x, 0);
-        read = Read {
-            at: read.at + 1,
-            count,
-        };
+        read = read.skip().with_node(code, shapes::ELEMENT, read.at, x, 0);
         k += 1;
     }
     Ok(read)
@@ -135,16 +129,12 @@ fn elements(y: &Symbols<'_>, from: Read, code: &mut [u16]) -> Result<Read, Fault
 
 // The body of a given set behind its name, with the `end`.
 fn given(y: &Symbols<'_>, from: Read, code: &mut [u16]) -> Result<Read, Fault>
-    requires { Room y.now.kinds.now code.old from.at from.count × (from.at + 1 < length y.now.kinds.now) × (get_or y.now.kinds.now from.at 0 ≡ 37) × (get_or y.now.kinds.now (from.at + 1) 0 ≡ 2) }
+    requires { Room y.now.kinds.now code.old from.at from.count × (get_or y.now.kinds.now from.at 0 ≡ 37) × (get_or y.now.kinds.now (from.at + 1) 0 ≡ 2) }
     ensures { Reads y.now.kinds.now (from.at + 1 + 1) (from.count + 4) (a_declared (an_element 1) ∷ some_elements 1 ∷ []) ([]) result × More y.now.kinds.now y.now.values.now some_givens from.at from.count code.old code.new result }
 {
-    let name = from.at + 1;
-    let x = name_number(y.kinds, y.values, name);
-    let count = put(code, from.count, shapes::GIVEN, from.at, x, 0);
-    let titled = Read {
-        at: name + 1,
-        count,
-    };
+    let name = from.skip();
+    let x = name_number(y.kinds, y.values, name.at);
+    let titled = name.skip().with_node(code, shapes::GIVEN, from.at, x, 0);
     let body = elements(y, titled, code)?;
     close(y.kinds, body, codes::END)
 }
@@ -181,19 +171,17 @@ fn arrow_of(k: u8) -> Option<u16>
 
 // A type that begins with a name: a given set, or an arrow between two.
 fn named(y: &Symbols<'_>, from: Read, code: &mut [u16]) -> Result<Read, Fault>
-    requires { Room y.now.kinds.now code.old from.at from.count × NameAt y.now.kinds.now from.at × (from.at < length y.now.kinds.now) }
+    requires { Room y.now.kinds.now code.old from.at from.count × NameAt y.now.kinds.now from.at }
     ensures { Reads y.now.kinds.now (from.at + 1) (from.count + 4) (a_type_rest ∷ []) ([]) result × Made y.now.kinds.now y.now.values.now part.a_type from.at from.count code.old code.new result }
 {
     let x = name_number(y.kinds, y.values, from.at);
-    let at = from.at + 1;
-    let Some(shape) = arrow_of(kind_at(y.kinds, at)) else {
-        let count = put(code, from.count, shapes::SET, from.at, x, 0);
-        return Ok(Read { at, count });
+    let arrow = from.skip();
+    let Some(shape) = arrow_of(kind_at(y.kinds, arrow.at)) else {
+        return Ok(arrow.with_node(code, shapes::SET, from.at, x, 0));
     };
-    let to = at + 1;
-    let second = y.name_at(to)?;
-    let count = put(code, from.count, shape, from.at, x, second);
-    Ok(Read { at: to + 1, count })
+    let to = arrow.skip();
+    let second = y.name_at(to.at)?;
+    Ok(to.skip().with_node(code, shape, from.at, x, second))
 }
 
 fn type_form(y: &Symbols<'_>, from: Read, code: &mut [u16]) -> Result<Read, Fault>
@@ -202,13 +190,9 @@ fn type_form(y: &Symbols<'_>, from: Read, code: &mut [u16]) -> Result<Read, Faul
 {
     let k = kind_at(y.kinds, from.at);
     if k == codes::POWER {
-        let name = from.at + 1;
-        let x = y.name_at(name)?;
-        let count = put(code, from.count, shapes::POWER, from.at, x, 0);
-        return Ok(Read {
-            at: name + 1,
-            count,
-        });
+        let name = from.skip();
+        let x = y.name_at(name.at)?;
+        return Ok(name.skip().with_node(code, shapes::POWER, from.at, x, 0));
     }
     if !is_name(k) {
         let ends = range(y, from)?;
@@ -220,13 +204,12 @@ fn type_form(y: &Symbols<'_>, from: Read, code: &mut [u16]) -> Result<Read, Faul
 
 // Behind a declared name: its node, and : type ;
 fn declaration(y: &Symbols<'_>, from: Read, code: &mut [u16]) -> Result<Read, Fault>
-    requires { Room y.now.kinds.now code.old from.at from.count × NameAt y.now.kinds.now from.at × (from.at < length y.now.kinds.now) }
+    requires { Room y.now.kinds.now code.old from.at from.count × NameAt y.now.kinds.now from.at }
     ensures { Reads y.now.kinds.now (from.at + 1) (from.count + 4) a_typed [] result × Made y.now.kinds.now y.now.values.now a_declaration from.at from.count code.old code.new result }
 {
     let x = name_number(y.kinds, y.values, from.at);
-    let at = from.at + 1;
-    let count = put(code, from.count, shapes::DECLARED, from.at, x, 0);
-    let colon = close(y.kinds, Read { at, count }, codes::COLON)?;
+    let begun = from.skip().with_node(code, shapes::DECLARED, from.at, x, 0);
+    let colon = close(y.kinds, begun, codes::COLON)?;
     let typed = type_form(y, colon, code)?;
     close(y.kinds, typed, codes::SEMICOLON)
 }

@@ -65,10 +65,9 @@ given-start code T z gs i ρ e f =
     never : (q : ℕ) → q + 1 < 0 → ⊥
     never q h = omega arith
 
-pub given-begin : (code rest : List ℕ) (T : Names) (z : Sizes) → rest ≡ code → Ends code rest × GivenOn code (place code rest) 0 T T z
-given-begin code rest T z e =
-    let none : length code - length code ≡ 0 = omega arith in
-    subst (λ (l : List ℕ). Ends code l × GivenOn code (place code l) 0 T T z) (sym e) (whole code, subst (λ (n : ℕ). GivenOn code n 0 T T z) (sym none) (given-start code T z))
+pub given-begin : (code : List ℕ) (T : Names) (z : Sizes) → Ends code code × GivenOn code (place code code) 0 T T z
+given-begin code T z =
+    let none : length code - length code ≡ 0 = omega arith in (whole code, subst (λ (n : ℕ). GivenOn code n 0 T T z) (sym none) (given-start code T z))
 
 -- the node of an element is none of a title
 pub element-shape : (code : List ℕ) (at i a b : ℕ) (rest : List ℕ) → drop at code ≡ node 4 i a b ++ rest → get_or code (at + 3) 0 ≡ 3 → ⊥

@@ -1,4 +1,5 @@
 -- Names and types: the walk over nodes, and what it finds.
+pub mod ArraysCut
 pub mod DeclarationNodes
 pub mod GivenSetNodes
 pub mod NodePieces

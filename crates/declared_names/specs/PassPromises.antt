@@ -49,7 +49,7 @@ HiddenSeen code s k T U = (xs : List Typed) (i : ℕ) (ρ : Numbering) → code 
 
 -- the node of a given set's body or of an element, at `at`, where g given sets have begun
 pub record Counted (code : List ℕ) (at g r : ℕ) : Type 0 where
-  pub few : r ≤ 8
+  pub few : g ≤ 8 → r ≤ 8
   pub title : get_or code (at + 3) 0 ≡ 3 → g < 8 → r ≡ g + 1
   pub element : (get_or code (at + 3) 0 ≡ 3 → ⊥) → r ≡ g
 
@@ -76,15 +76,14 @@ pub record GivenSeen (code : List ℕ) (T U : Names) (z : Sizes) (r : ℕ) : Typ
   pub sized : (gs : List Given) (i : ℕ) (ρ : Numbering) → code ≡ given_codes i gs ρ → Fewer gs → r ≡ 0
       → (k : ℕ) → k < length gs → get_or z k 0 ≡ get_or (map size_of gs) k 0
 
--- the end of declarations, of a predicate that begins at `at`, of an operation
+-- the end of declarations, of a predicate, of an operation, each at the beginning of `code`
 pub record DeclaredEnd (code : List ℕ) (r : ℕ) : Type 0 where
   pub within : r ≤ length code
   pub right : (xs : List Typed) (i : ℕ) (ρ : Numbering) (rest : List ℕ) → code ≡ typed_codes i xs ρ ++ rest → (get_or rest 3 0 ≡ 6 → ⊥) → r ≡ length (typed_codes i xs ρ)
 
-pub record PredicateEnd (code : List ℕ) (at r : ℕ) : Type 0 where
-  pub behind : at ≤ r
+pub record PredicateEnd (code : List ℕ) (r : ℕ) : Type 0 where
   pub within : r ≤ length code
-  pub right : (p : Pred) (i : ℕ) (ρ : Numbering) (rest : List ℕ) → drop at code ≡ condition_codes i p ρ ++ rest → r ≡ at + length (condition_codes i p ρ)
+  pub right : (p : Pred) (i : ℕ) (ρ : Numbering) (rest : List ℕ) → code ≡ condition_codes i p ρ ++ rest → r ≡ length (condition_codes i p ρ)
 
 abbrev pub operation_code : (i : ℕ) → Operation → Numbering → List ℕ
 operation_code i o ρ =
@@ -92,10 +91,10 @@ operation_code i o ρ =
     ++ (parameter_codes (i + 2) o.parameters ρ
     ++ (condition_codes (abstractly_at i o) o.abstractly ρ ++ condition_codes (suc (abstractly_at i o) + pred_width o.abstractly) o.concretely ρ))
 
-pub record OperationEnd (code : List ℕ) (at r : ℕ) : Type 0 where
-  pub behind : at + 4 ≤ r
+pub record OperationEnd (code : List ℕ) (r : ℕ) : Type 0 where
+  pub behind : 4 ≤ r
   pub within : r ≤ length code
-  pub right : (o : Operation) (i : ℕ) (ρ : Numbering) (rest : List ℕ) → drop at code ≡ operation_code i o ρ ++ rest → r ≡ at + length (operation_code i o ρ)
+  pub right : (o : Operation) (i : ℕ) (ρ : Numbering) (rest : List ℕ) → code ≡ operation_code i o ρ ++ rest → r ≡ length (operation_code i o ρ)
 
 -- a predicate with its node in front; a state
 pub record ConditionSeen (code : List ℕ) (T U : Names) (z : Sizes) (r : ℕ) : Type 0 where

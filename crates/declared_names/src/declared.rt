@@ -1,5 +1,5 @@
 // Declarations: names that come into use with their types, and names in reach of a predicate.
-ghost use Rattle.std.specs.Prelude.{◌≡◌, ◌+◌, ◌≤◌, ◌<◌, length};
+ghost use Rattle.std.specs.Prelude.{◌≤◌, length};
 ghost use Rattle.type_rules.specs.Passes.{refused_key};
 ghost use Rattle.type_rules.specs.TypesByNumber.{fault_key};
 ghost use Rattle.declared_names.specs.PassPromises.{TypeKinded, TypeFaulted, DeclarationFaulted, Reached, DeclaredSeen, ShownSeen, HiddenSeen, Counted, GivenFaulted, GivenKind, SizeCounted, GivenSeen};
@@ -13,7 +13,8 @@ use type_rules::entries::Kind;
 use type_rules::kinds::{all_well, entry, lesser_of, look, pairs_fault, put, range_fits, unless};
 
 // What a name of a declared type is, by the nodes from the type's on.
-// Form 5: that there are four numbers is asked by three functions. An array of the four, each caller would have to cut out of its slice, and to show there what it shows for the clause.
+// Form 5: that there are four numbers or more is asked here, by `type_fault`, by `size_at` of limits and by `set_type` of table_places. The type of an array asks for just four, which is more of callers,
+// and where `&d[node::SIZE..]` stands, `&d.as_chunks::<{ node::SIZE }>().0[1]` would.
 pub fn type_kind(t: &[u16], names: &[Kind]) -> Kind
     requires { 4 ≤ length t.now }
     ensures { TypeKinded t.now 0 names.now result }
@@ -49,7 +50,7 @@ pub fn type_fault(t: &[u16], names: &[Kind], sizes: &[u16]) -> Option<Fault>
 pub fn declare(code: &[u16], names: &mut [Kind], sizes: &[u16]) -> Result<(), Fault>
     ensures { DeclaredSeen code.now names.old names.new sizes.now (refused_key result) }
 {
-    for d in code.chunks_exact(node::DECLARATION) {
+    for d in code.as_chunks::<{ node::DECLARATION }>().0 {
         all_well(declaration_fault(d, names, sizes))?;
         reach(d, PLAIN, names);
     }
@@ -57,8 +58,7 @@ pub fn declare(code: &[u16], names: &mut [Kind], sizes: &[u16]) -> Result<(), Fa
 }
 
 // The first fault of a declaration, by its nodes.
-fn declaration_fault(d: &[u16], names: &[Kind], sizes: &[u16]) -> Option<Fault>
-    requires { length d.now ≡ 8 }
+fn declaration_fault(d: &[u16; node::DECLARATION], names: &[Kind], sizes: &[u16]) -> Option<Fault>
     ensures { DeclarationFaulted d.now 0 names.now sizes.now (fault_key result) }
 {
     let old = entry(names, usize::from(d[node::A]));
@@ -72,8 +72,7 @@ fn declaration_fault(d: &[u16], names: &[Kind], sizes: &[u16]) -> Option<Fault>
 }
 
 // A declared name comes into reach, with `shift` added to its number.
-fn reach(d: &[u16], shift: u16, names: &mut [Kind])
-    requires { length d.now ≡ 8 }
+fn reach(d: &[u16; node::DECLARATION], shift: u16, names: &mut [Kind])
     ensures { Reached d.now 0 shift names.old names.new }
 {
     let k = type_kind(&d[node::SIZE..], names);
@@ -84,7 +83,7 @@ fn reach(d: &[u16], shift: u16, names: &mut [Kind])
 pub fn show(code: &[u16], shift: u16, names: &mut [Kind])
     ensures { ShownSeen code.now shift names.old names.new }
 {
-    for d in code.chunks_exact(node::DECLARATION) {
+    for d in code.as_chunks::<{ node::DECLARATION }>().0 {
         reach(d, shift, names);
     }
 }
@@ -93,7 +92,7 @@ pub fn show(code: &[u16], shift: u16, names: &mut [Kind])
 pub fn hide(code: &[u16], shift: u16, k: Kind, names: &mut [Kind])
     ensures { HiddenSeen code.now shift k names.old names.new }
 {
-    for d in code.chunks_exact(node::DECLARATION) {
+    for d in code.as_chunks::<{ node::DECLARATION }>().0 {
         put(names, usize::from(d[node::A]) + usize::from(shift), k);
     }
 }
@@ -103,8 +102,8 @@ pub fn give(code: &[u16], names: &mut [Kind], sizes: &mut [u16]) -> Result<(), F
     requires { 8 ≤ length sizes.old }
     ensures { GivenSeen code.now names.old names.new sizes.new (refused_key result) }
 {
-    let mut g: u16 = 0;
-    for n in code.chunks_exact(node::SIZE) {
+    let mut g: u8 = 0;
+    for n in code.as_chunks::<{ node::SIZE }>().0 {
         all_well(given_fault(n, names))?;
         g = counted(n, g);
         let k = given_kind(n, g);
@@ -115,21 +114,17 @@ pub fn give(code: &[u16], names: &mut [Kind], sizes: &mut [u16]) -> Result<(), F
 }
 
 // How many given sets have begun behind a node.
-// Form 5: `chunks_exact` lends slices, of whose length only the cut speaks. `as_chunks` would lend arrays, in a list of arrays: the laws of what is left behind a piece
-// (proofs/NodePieces), for the loops here and of three crates above, would speak of two lists and of four or eight times a number in place of one list and its length.
-fn counted(n: &[u16], g: u16) -> u16
-    requires { (length n.now ≡ 4) × (g ≤ 8) }
+fn counted(n: &[u16; node::SIZE], g: u8) -> u8
     ensures { Counted n.now 0 g result }
 {
     if n[node::SHAPE] != shapes::GIVEN {
         return g;
     }
-    (g + 1).min(entries::ROW)
+    g.saturating_add(1).min(bounds::GIVEN_SETS)
 }
 
 // A title stands behind its heading, an element at its own place.
-fn given_fault(n: &[u16], names: &[Kind]) -> Option<Fault>
-    requires { length n.now ≡ 4 }
+fn given_fault(n: &[u16; node::SIZE], names: &[Kind]) -> Option<Fault>
     ensures { GivenFaulted n.now 0 names.now (fault_key result) }
 {
     let old = entry(names, usize::from(n[node::A]));
@@ -141,8 +136,7 @@ fn given_fault(n: &[u16], names: &[Kind]) -> Option<Fault>
 }
 
 // What the title of the given set g is, counted from 1, or one of its elements.
-fn given_kind(n: &[u16], g: u16) -> Kind
-    requires { (length n.now ≡ 4) × (g ≤ 8) }
+fn given_kind(n: &[u16; node::SIZE], g: u8) -> Kind
     ensures { GivenKind n.now 0 g result }
 {
     if n[node::SHAPE] == shapes::GIVEN {
@@ -152,8 +146,7 @@ fn given_kind(n: &[u16], g: u16) -> Kind
 }
 
 // The given set g, counted from 1, has one more element, or begins.
-fn count_given(n: &[u16], g: u16, sizes: &mut [u16])
-    requires { length n.now ≡ 4 }
+fn count_given(n: &[u16; node::SIZE], g: u8, sizes: &mut [u16])
     ensures { SizeCounted n.now 0 g sizes.old sizes.new }
 {
     let Some(x) = usize::from(g).checked_sub(1) else {

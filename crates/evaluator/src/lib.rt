@@ -2,7 +2,8 @@
 // end, shape, and stands behind its parts; `end` is the place behind a node, its last part ends where the node begins, an earlier one where the node says.
 // A slot has the value of a variable or of a bound name; every function leaves the slots as they were. The caller lends the table: shapes and codes are numbers in it.
 // Form 5: each walk asks `Inside end` for itself, since `end` is another one at each call: with a struct of table and `end` that has the fact, each of some
-// thirty calls would write the struct with its two fields where it writes two arguments, and the fact would be shown there as it is now.
+// thirty calls would write the struct with its two fields where it writes two arguments, and the fact would be shown there as it is now. `t` and `slots` go together through nine walks:
+// the slots are lent to be written beside a table that is only read, and in a struct of both each of the nine would promise, beside `kept`, that the table is as it was.
 #![tactic(auto)]
 
 ghost use Rattle.std.specs.Prelude.{◌≡◌, ◌<◌, pos, nat_abs, ◌+ℤ◌, ◌-ℤ◌};

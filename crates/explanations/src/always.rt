@@ -2,10 +2,9 @@
 ghost use Rattle.std.specs.Prelude.{◌≤◌};
 
 use crate::bounds::is_short;
-use crate::dossiers::ReadText;
-use crate::items::counts_of;
+use crate::dossiers::Explanation;
 use lexical::bounds::OPERATIONS;
-use pages::{Bindings, Page};
+use pages::Bindings;
 use phrases::words;
 use points::slots;
 use search_groups::contexts;
@@ -28,95 +27,97 @@ struct Omission {
     n: usize,
 }
 
-fn say_omission(r: &ReadText<'_, '_>, j: usize, o: Omission, page: &mut Page) {
-    let bits = left_out(&r.dossier, o.context, o.slot, o.n);
-    if bits != 0 {
-        page.say_of(o.phrase, j, bits, 0);
+impl Explanation<'_, '_> {
+    fn say_omission(&mut self, j: usize, o: Omission) {
+        let bits = left_out(&self.dossier, o.context, o.slot, o.n);
+        if bits != 0 {
+            self.page.say_of(o.phrase, j, bits, 0);
+        }
     }
-}
 
-// What the predicates of an operation leave out.
-fn say_left_out(r: &ReadText<'_, '_>, j: usize, page: &mut Page) {
-    let n = counts_of(r, j);
-    let context = context_of(j);
-    let omissions = [
-        Omission {
-            phrase: words::ABSTRACT_PRIMED_VARIABLES,
-            context,
-            slot: slots::ABSTRACT_PRIMED,
-            n: n.va,
-        },
-        Omission {
-            phrase: words::OUTPUTS_OF_THE_ABSTRACT_SIDE,
-            context,
-            slot: slots::OUTPUTS,
-            n: n.vo,
-        },
-        Omission {
-            phrase: words::CONCRETE_PRIMED_VARIABLES,
-            context: context + contexts::CONCRETE_SIDE,
-            slot: slots::CONCRETE_PRIMED,
-            n: n.vc,
-        },
-        Omission {
-            phrase: words::OUTPUTS_OF_THE_CONCRETE_SIDE,
-            context: context + contexts::CONCRETE_SIDE,
-            slot: slots::OUTPUTS,
-            n: n.vo,
-        },
-    ];
-    for o in &omissions {
-        say_omission(r, j, *o, page);
+    // What the predicates of an operation leave out.
+    fn say_left_out(&mut self, j: usize) {
+        let n = self.counts_of(j);
+        let context = context_of(j);
+        let omissions = [
+            Omission {
+                phrase: words::ABSTRACT_PRIMED_VARIABLES,
+                context,
+                slot: slots::ABSTRACT_PRIMED,
+                n: n.va,
+            },
+            Omission {
+                phrase: words::OUTPUTS_OF_THE_ABSTRACT_SIDE,
+                context,
+                slot: slots::OUTPUTS,
+                n: n.vo,
+            },
+            Omission {
+                phrase: words::CONCRETE_PRIMED_VARIABLES,
+                context: context + contexts::CONCRETE_SIDE,
+                slot: slots::CONCRETE_PRIMED,
+                n: n.vc,
+            },
+            Omission {
+                phrase: words::OUTPUTS_OF_THE_CONCRETE_SIDE,
+                context: context + contexts::CONCRETE_SIDE,
+                slot: slots::OUTPUTS,
+                n: n.vo,
+            },
+        ];
+        for o in &omissions {
+            self.say_omission(j, *o);
+        }
     }
-}
 
-// What the predicates of all operations leave out. What is listed is left out; that what is not listed is mentioned rests on `mentions::Mention::free_pred`,
-// whose promise is one-sided.
-pub fn say_omissions(r: &ReadText<'_, '_>, page: &mut Page) {
-    page.say(words::WHAT_PREDICATES_LEAVE_OUT);
-    let told = page.items().len();
-    for j in 0..r.dossier.arrays.operations {
-        say_left_out(r, j, page);
+    // What the predicates of all operations leave out. What is listed is left out; that what is not listed is mentioned rests on `mentions::Mention::free_pred`,
+    // whose promise is one-sided.
+    pub fn say_omissions(&mut self) {
+        self.page.say(words::WHAT_PREDICATES_LEAVE_OUT);
+        let told = self.page.items().len();
+        for j in 0..self.dossier.arrays.operations {
+            self.say_left_out(j);
+        }
+        if self.page.items().len() == told {
+            self.page.say(words::NOTHING_LEFT_OUT);
+        }
     }
-    if page.items().len() == told {
-        page.say(words::NOTHING_LEFT_OUT);
-    }
-}
 
-// ---- preconditions
+    // ---- preconditions
 
-// A place where the preconditions differ, if there is one.
-fn say_place(page: &mut Page, phrase: usize, j: usize, place: Option<Place>) {
-    if let Some(p) = place {
-        let before = Bindings {
-            a: p.a,
-            c: p.c,
-            i: p.i,
-            ..Bindings::default()
-        };
-        page.say_at(phrase, j, before);
+    // A place where the preconditions differ, if there is one.
+    fn say_place(&mut self, phrase: usize, j: usize, place: Option<Place>) {
+        if let Some(p) = place {
+            let before = Bindings {
+                a: p.a,
+                c: p.c,
+                i: p.i,
+                ..Bindings::default()
+            };
+            self.page.say_at(phrase, j, before);
+        }
     }
-}
 
-fn say_precondition(r: &ReadText<'_, '_>, j: usize, page: &mut Page) {
-    let s = spans(&r.dossier, j);
-    if !is_short(s) {
-        page.say_for(words::NOT_COMPARED, j);
-        return;
+    fn say_precondition(&mut self, j: usize) {
+        let s = spans(&self.dossier, j);
+        if !is_short(s) {
+            self.page.say_for(words::NOT_COMPARED, j);
+            return;
+        }
+        let n = narrowed(&self.dossier, j);
+        let w = widened(&self.dossier, j);
+        self.say_place(words::NARROWED, j, n);
+        self.say_place(words::WIDENED, j, w);
+        if n.is_none() && w.is_none() {
+            self.page.say_for(words::NEITHER, j);
+        }
     }
-    let n = narrowed(&r.dossier, j);
-    let w = widened(&r.dossier, j);
-    say_place(page, words::NARROWED, j, n);
-    say_place(page, words::WIDENED, j, w);
-    if n.is_none() && w.is_none() {
-        page.say_for(words::NEITHER, j);
-    }
-}
 
-// The preconditions of all operations.
-pub fn say_preconditions(r: &ReadText<'_, '_>, page: &mut Page) {
-    page.say(words::PRECONDITIONS);
-    for j in 0..r.dossier.arrays.operations {
-        say_precondition(r, j, page);
+    // The preconditions of all operations.
+    pub fn say_preconditions(&mut self) {
+        self.page.say(words::PRECONDITIONS);
+        for j in 0..self.dossier.arrays.operations {
+            self.say_precondition(j);
+        }
     }
 }

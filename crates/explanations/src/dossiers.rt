@@ -1,8 +1,10 @@
-// A text, and the dossier that was read of it: what all that is said of it is found by.
+// A text, the dossier that was read of it, and the page with what is said of it.
+use pages::Page;
 use step_searches::ReadDossier;
 
 #[derive(Drop)]
-pub struct ReadText<'a, 'b> {
+pub struct Explanation<'a, 'b> {
     pub text: &'a [u8],
     pub dossier: ReadDossier<'b>,
+    pub page: Page,
 }

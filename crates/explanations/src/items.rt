@@ -1,5 +1,5 @@
 // What is found of a dossier by the numbers of bindings.
-use crate::dossiers::ReadText;
+use crate::dossiers::Explanation;
 use conjunct_texts::bytes_of;
 use pages::{Bindings, Counts};
 use phrases::SLOTS;
@@ -16,17 +16,19 @@ pub fn states(a: usize, c: usize) -> Bindings {
     }
 }
 
-// The bytes of the conjunct whose row begins there, if it has some.
-pub fn conjunct_at(r: &ReadText<'_, '_>, row: Option<usize>) -> Option<Span> {
-    let rows = r.dossier.arrays.rows;
-    let ends = rows.get(row?..)?;
-    let from = ends.first().copied()?;
-    let end = ends.get(END).copied()?;
-    bytes_of(r.text, usize::from(from), usize::from(end))
-}
+impl Explanation<'_, '_> {
+    // The bytes of the conjunct whose row begins there, if it has some.
+    pub fn conjunct_at(&self, row: Option<usize>) -> Option<Span> {
+        let rows = self.dossier.arrays.rows;
+        let ends = rows.get(row?..)?;
+        let from = ends.first().copied()?;
+        let end = ends.get(END).copied()?;
+        bytes_of(self.text, usize::from(from), usize::from(end))
+    }
 
-// How many variables the groups of an operation have.
-pub fn counts_of(r: &ReadText<'_, '_>, j: usize) -> Counts {
-    let mut values = [0i64; SLOTS];
-    show(&r.dossier.arrays, j, Bindings::default(), &mut values)
+    // How many variables the groups of an operation have.
+    pub fn counts_of(&self, j: usize) -> Counts {
+        let mut values = [0i64; SLOTS];
+        show(&self.dossier.arrays, j, Bindings::default(), &mut values)
+    }
 }

@@ -1,12 +1,9 @@
 // What is explained of a text: the items of a page, from facts that are proved, and the page written in words.
 #![tactic(auto)]
 
-ghost use Rattle.std.specs.Prelude.{◌≤◌};
+ghost use Rattle.std.specs.Prelude.{◌≤◌, length};
 
-use crate::accepted::say_accepted;
-use crate::always::{say_omissions, say_preconditions};
-use crate::dossiers::ReadText;
-use crate::refuted::{say_applicability, say_correctness, say_initialisation};
+use crate::dossiers::Explanation;
 use held_checks::{Obligation, obligation_of};
 use labels::{LABELS, Names};
 use pages::{Counts, Page};
@@ -15,7 +12,7 @@ use parts::search;
 use phrases::{SLOTS, Source, put_phrase};
 use refusal_pages::say_refusal;
 use refusals::Fault;
-use sheets::{SHEET, Sheet};
+use sheets::Sheet;
 use state_facts::show;
 use step_searches::ReadDossier;
 use text_readings::Arrays;
@@ -28,14 +25,6 @@ mod items;
 mod reached;
 mod refuted;
 
-fn say_refuted(r: &ReadText<'_, '_>, f: Found, page: &mut Page) {
-    match obligation_of(f.part) {
-        Obligation::Initialisation => say_initialisation(r, f.at, page),
-        Obligation::Applicability(j) => say_applicability(r, j, f.at, page),
-        Obligation::Correctness(j) => say_correctness(r, j, f.at, page),
-    }
-}
-
 // The place at which the search over all of them fails, if there is one.
 fn failing(d: &ReadDossier<'_>) -> Option<Found> {
     let all = total(&d.arrays);
@@ -43,60 +32,57 @@ fn failing(d: &ReadDossier<'_>) -> Option<Found> {
     Some(find(&d.arrays, place))
 }
 
-// The verdict, and what is behind it.
-fn say_verdict(r: &ReadText<'_, '_>, page: &mut Page) {
-    match failing(&r.dossier) {
-        Some(f) => say_refuted(r, f, page),
-        None => say_accepted(r, page),
+impl Explanation<'_, '_> {
+    fn say_refuted(&mut self, f: Found) {
+        match obligation_of(f.part) {
+            Obligation::Initialisation => self.say_initialisation(f.at),
+            Obligation::Applicability(j) => self.say_applicability(j, f.at),
+            Obligation::Correctness(j) => self.say_correctness(j, f.at),
+        }
     }
-}
 
-// All that is said of a dossier.
-fn say_all(r: &ReadText<'_, '_>, page: &mut Page) {
-    say_verdict(r, page);
-    if 0 < r.dossier.arrays.operations {
-        say_omissions(r, page);
-        say_preconditions(r, page);
+    // The verdict, and what is behind it.
+    fn say_verdict(&mut self) {
+        match failing(&self.dossier) {
+            Some(f) => self.say_refuted(f),
+            None => self.say_accepted(),
+        }
     }
-}
 
-// A sheet goes to lent bytes; how many bytes it has.
-fn copy_sheet(sheet: &Sheet, out: &mut [u8; SHEET]) -> usize
-    ensures { result ≤ 65536 }
-{
-    let text = sheet.as_slice();
-    out[..text.len()].copy_from_slice(text);
-    text.len()
-}
-
-// The explanation of a dossier that is read.
-fn explain_dossier(r: &ReadText<'_, '_>, labels: &[u16; LABELS], out: &mut [u8; SHEET]) -> usize
-    ensures { result ≤ 65536 }
-{
-    let mut page = Page::new();
-    say_all(r, &mut page);
-    let mut sheet = Sheet::new();
-    for e in page.items() {
-        let mut slots = [0i64; SLOTS];
-        let counts = show(&r.dossier.arrays, e.operation, e.bindings, &mut slots);
-        let s = Source {
-            names: Names {
-                text: r.text,
-                labels,
-            },
-            slots: &slots,
-            counts,
-        };
-        put_phrase(e, &s, &mut sheet);
+    // All that is said of a dossier.
+    fn say_all(&mut self) {
+        self.say_verdict();
+        if 0 < self.dossier.arrays.operations {
+            self.say_omissions();
+            self.say_preconditions();
+        }
     }
-    copy_sheet(&sheet, out)
+
+    // The explanation of a dossier that is read.
+    fn explain(&mut self, labels: &[u16; LABELS]) -> Sheet {
+        self.say_all();
+        let mut sheet = Sheet::new();
+        for e in self.page.items() {
+            let mut slots = [0i64; SLOTS];
+            let counts = show(&self.dossier.arrays, e.operation, e.bindings, &mut slots);
+            let s = Source {
+                names: Names {
+                    text: self.text,
+                    labels,
+                },
+                slots: &slots,
+                counts,
+            };
+            put_phrase(e, &s, &mut sheet);
+        }
+        sheet
+    }
 }
 
 // The explanation of a refused text: it speaks of no bindings.
-// Form 2: the lines around the items of the page are those of `explain_dossier`; as one function it would take the values of an item as a closure that may be run (`F.pre`).
-fn explain_refusal(text: &[u8], labels: &[u16; LABELS], f: Fault, out: &mut [u8; SHEET]) -> usize
-    ensures { result ≤ 65536 }
-{
+// Form 2: four lines around the items of the page are those of `Explanation::explain`; one function for them would take the page, the names and the values of an item, as a closure
+// with its requirement (`F.pre`), and be longer than what it spares.
+fn explain_refusal(text: &[u8], labels: &[u16; LABELS], f: Fault) -> Sheet {
     let mut page = Page::new();
     say_refusal(text, f, &mut page);
     let mut sheet = Sheet::new();
@@ -108,22 +94,27 @@ fn explain_refusal(text: &[u8], labels: &[u16; LABELS], f: Fault, out: &mut [u8;
     for e in page.items() {
         put_phrase(e, &s, &mut sheet);
     }
-    copy_sheet(&sheet, out)
+    sheet
 }
 
-// The explanation of a text on a sheet, and where it ends.
-pub fn explain(text: &[u8], out: &mut [u8; SHEET]) -> usize
-    ensures { result ≤ 65536 }
+// The explanation of a text on a sheet.
+pub fn explain(text: &[u8]) -> Sheet
+    ensures { length result.text ≤ 65536 }
 {
     let mut a = Arrays::new();
     let answer = a.read(text);
     match answer {
-        Err(f) => explain_refusal(text, &a.labels, f, out),
+        Err(f) => explain_refusal(text, &a.labels, f),
         Ok(operations) => {
             let arrays = a.dossier(operations);
             let dossier = ReadDossier { arrays };
-            let r = ReadText { text, dossier };
-            explain_dossier(&r, &a.labels, out)
+            let page = Page::new();
+            let mut e = Explanation {
+                text,
+                dossier,
+                page,
+            };
+            e.explain(&a.labels)
         }
     }
 }

@@ -1,11 +1,12 @@
 // A counterexample: the binding, what holds there, and what fails.
+// Form 5: an operation j and a binding x go together through six methods here. As a struct the two would be made anew where a step changes x (`stepped`) and taken apart at each item,
+// which has both as fields of its own.
 ghost use Rattle.std.specs.Prelude.{◌<◌};
 
 use crate::bounds::product;
-use crate::dossiers::ReadText;
-use crate::items::{conjunct_at, states};
-use crate::reached::say_reached;
-use pages::{Bindings, Page};
+use crate::dossiers::Explanation;
+use crate::items::states;
+use pages::Bindings;
 use phrases::words;
 use state_facts::conjuncts::{false_conjunct, false_guard};
 use state_facts::searches::next_abstract_initial;
@@ -13,72 +14,6 @@ use step_facts::{Pair, Widths, abstract_step, spans};
 
 // How many states of a list are shown.
 const SHOWN: usize = 4;
-
-// The states of an item, and why they are not related.
-fn say_unrelated(
-    r: &ReadText<'_, '_>,
-    phrase: usize,
-    j: usize,
-    x: Bindings,
-    pair: Pair,
-    page: &mut Page,
-) {
-    page.say_at(phrase, j, x);
-    let row = false_conjunct(&r.dossier, pair);
-    if let Some(b) = conjunct_at(r, row) {
-        page.say_of(words::WHY_TWO_STATES_ARE_NOT_RELATED, 0, b.from, b.to);
-    }
-}
-
-// The states from the first on, as many as are shown; a state is said by the closure, which answers the next one. `and more` where there are others.
-fn say_states<F: Fn(usize, &mut Page) -> Option<usize>>(
-    first: Option<usize>,
-    say: F,
-    page: &mut Page,
-)
-    requires { F.IsAlwaysCallable say }
-{
-    let mut next = first;
-    for _ in 0..SHOWN {
-        let Some(k) = next else {
-            return;
-        };
-        next = say(k, page);
-    }
-    if next.is_some() {
-        page.say(words::AND_MORE);
-    }
-}
-
-// ---- initialisation
-
-// The abstract initial states from a on, each with why it is not related.
-fn say_initials(r: &ReadText<'_, '_>, first: usize, c: usize, page: &mut Page) {
-    let say = |a: usize, page: &mut Page| {
-        let x = states(a, c);
-        say_unrelated(r, words::AN_ABSTRACT_STATE, 0, x, Pair { a, c }, page);
-        next_abstract_initial(&r.dossier, a.saturating_add(1))
-    };
-    say_states(Some(first), say, page);
-}
-
-pub fn say_initialisation(r: &ReadText<'_, '_>, c: usize, page: &mut Page) {
-    page.say(words::REFUTED_INITIALISATION);
-    page.say_at(words::THE_BINDING_OF_INITIALISATION, 0, states(0, c));
-    let Some(a) = next_abstract_initial(&r.dossier, 0) else {
-        page.say(words::NO_INITIAL_STATE);
-        return;
-    };
-    page.say(words::NO_RELATED_INITIAL_STATE);
-    say_initials(r, a, c, page);
-}
-
-// ---- operations
-
-// The next abstract step of a binding from one on, by its number.
-fn next_step(r: &ReadText<'_, '_>, j: usize, x: Bindings, from: usize) -> Option<usize> {
-    abstract_step(&r.dossier, j, x.a, x.i, from).unwrap_or(None)
-}
 
 // A binding with the outputs and the abstract state after of a step by its number, where there are na abstract states.
 fn stepped(x: Bindings, step: usize, na: usize) -> Bindings
@@ -90,14 +25,6 @@ fn stepped(x: Bindings, step: usize, na: usize) -> Bindings
         ..x
     }
 }
-
-// What is refuted of an operation, and its binding.
-fn say_binding(phrase: usize, j: usize, x: Bindings, page: &mut Page) {
-    page.say_for(phrase, j);
-    page.say_at(words::THE_BINDING_OF_AN_OPERATION, j, x);
-}
-
-// ---- applicability
 
 // The numbers of a place of applicability.
 fn applied(place: usize, s: Widths) -> Bindings
@@ -111,30 +38,6 @@ fn applied(place: usize, s: Widths) -> Bindings
         ..Bindings::default()
     }
 }
-
-pub fn say_applicability(r: &ReadText<'_, '_>, j: usize, place: usize, page: &mut Page) {
-    let s = spans(&r.dossier, j);
-    let x = applied(place, s);
-    say_binding(words::REFUTED_APPLICABILITY, j, x, page);
-    if let Some(step) = next_step(r, j, x, 0) {
-        let holds = stepped(x, step, s.na);
-        page.say_at(words::WHAT_HOLDS_OF_APPLICABILITY, j, holds);
-    }
-    page.say_for(words::WHAT_FAILS_OF_APPLICABILITY, j);
-    say_guard(r, j, x, page);
-    say_reached(r, x.a, x.c, page);
-}
-
-// Which condition of the concrete guard is false.
-fn say_guard(r: &ReadText<'_, '_>, j: usize, x: Bindings, page: &mut Page) {
-    let row = false_guard(&r.dossier, j, x.c, x.i);
-    match conjunct_at(r, row) {
-        Some(b) => page.say_of(words::A_CONDITION_THAT_IS_FALSE, 0, b.from, b.to),
-        None => page.say(words::NO_SINGLE_CONDITION),
-    }
-}
-
-// ---- correctness
 
 // The numbers of a place of correctness.
 fn corrected(place: usize, s: Widths) -> Bindings
@@ -153,48 +56,143 @@ fn first_of(step: Option<usize>, end: usize) -> Option<usize> {
     step.filter(|k| *k < end)
 }
 
-// The abstract steps with the inputs and outputs of the binding from the first on, each with why it does not do.
-fn say_steps(r: &ReadText<'_, '_>, j: usize, x: Bindings, first: Option<usize>, page: &mut Page) {
-    let s = spans(&r.dossier, j);
-    let from = product(x.o, s.na);
-    let end = product(x.o.saturating_add(1), s.na);
-    let say = |k: usize, page: &mut Page| {
-        let b = k.saturating_sub(from);
-        say_unrelated(
-            r,
-            words::AN_ABSTRACT_AFTER_STATE,
-            j,
-            Bindings { b, ..x },
-            Pair { a: b, c: x.k },
-            page,
-        );
-        first_of(next_step(r, j, x, k.saturating_add(1)), end)
-    };
-    say_states(first_of(first, end), say, page);
-}
-
-// Which abstract steps there are with these outputs, or one with others.
-fn say_corrected(r: &ReadText<'_, '_>, j: usize, x: Bindings, page: &mut Page) {
-    let s = spans(&r.dossier, j);
-    let first = next_step(r, j, x, product(x.o, s.na));
-    if first_of(first, product(x.o.saturating_add(1), s.na)).is_some() {
-        page.say(words::ABSTRACT_STEPS);
-        say_steps(r, j, x, first, page);
-        return;
+impl Explanation<'_, '_> {
+    // The states of an item, and why they are not related.
+    fn say_unrelated(&mut self, phrase: usize, j: usize, x: Bindings, pair: Pair) {
+        self.page.say_at(phrase, j, x);
+        let row = false_conjunct(&self.dossier, pair);
+        if let Some(b) = self.conjunct_at(row) {
+            self.page
+                .say_of(words::WHY_TWO_STATES_ARE_NOT_RELATED, 0, b.from, b.to);
+        }
     }
-    if let Some(q) = next_step(r, j, x, 0) {
-        let other = stepped(x, q, s.na);
-        page.say_at(words::NO_ABSTRACT_STEP_WITH_THESE_OUTPUTS, j, other);
-    }
-}
 
-pub fn say_correctness(r: &ReadText<'_, '_>, j: usize, place: usize, page: &mut Page) {
-    let s = spans(&r.dossier, j);
-    let x = corrected(place, s);
-    say_binding(words::REFUTED_CORRECTNESS, j, x, page);
-    page.say_at(words::THE_CONCRETE_STEP_OF_A_BINDING, j, x);
-    page.say_for(words::WHAT_HOLDS_OF_CORRECTNESS, j);
-    page.say_for(words::WHAT_FAILS_OF_CORRECTNESS, j);
-    say_corrected(r, j, x, page);
-    say_reached(r, x.a, x.c, page);
+    // The states from the first on, as many as are shown; a state is said by the closure, which answers the next one. `and more` where there are others.
+    fn say_states<F: Fn(usize, &mut Explanation<'_, '_>) -> Option<usize>>(
+        &mut self,
+        first: Option<usize>,
+        say: F,
+    )
+        requires { F.IsAlwaysCallable say }
+    {
+        let mut next = first;
+        for _ in 0..SHOWN {
+            let Some(k) = next else {
+                return;
+            };
+            next = say(k, self);
+        }
+        if next.is_some() {
+            self.page.say(words::AND_MORE);
+        }
+    }
+
+    // ---- initialisation
+
+    // The abstract initial states from a on, each with why it is not related.
+    fn say_initials(&mut self, first: usize, c: usize) {
+        let say = |a: usize, e: &mut Explanation<'_, '_>| {
+            let x = states(a, c);
+            e.say_unrelated(words::AN_ABSTRACT_STATE, 0, x, Pair { a, c });
+            next_abstract_initial(&e.dossier, a.saturating_add(1))
+        };
+        self.say_states(Some(first), say);
+    }
+
+    pub fn say_initialisation(&mut self, c: usize) {
+        self.page.say(words::REFUTED_INITIALISATION);
+        self.page
+            .say_at(words::THE_BINDING_OF_INITIALISATION, 0, states(0, c));
+        let Some(a) = next_abstract_initial(&self.dossier, 0) else {
+            self.page.say(words::NO_INITIAL_STATE);
+            return;
+        };
+        self.page.say(words::NO_RELATED_INITIAL_STATE);
+        self.say_initials(a, c);
+    }
+
+    // ---- operations
+
+    // The next abstract step of a binding from one on, by its number.
+    fn next_step(&self, j: usize, x: Bindings, from: usize) -> Option<usize> {
+        abstract_step(&self.dossier, j, x.a, x.i, from).unwrap_or(None)
+    }
+
+    // What is refuted of an operation, and its binding.
+    fn say_binding(&mut self, phrase: usize, j: usize, x: Bindings) {
+        self.page.say_for(phrase, j);
+        self.page.say_at(words::THE_BINDING_OF_AN_OPERATION, j, x);
+    }
+
+    // ---- applicability
+
+    pub fn say_applicability(&mut self, j: usize, place: usize) {
+        let s = spans(&self.dossier, j);
+        let x = applied(place, s);
+        self.say_binding(words::REFUTED_APPLICABILITY, j, x);
+        if let Some(step) = self.next_step(j, x, 0) {
+            let holds = stepped(x, step, s.na);
+            self.page
+                .say_at(words::WHAT_HOLDS_OF_APPLICABILITY, j, holds);
+        }
+        self.page.say_for(words::WHAT_FAILS_OF_APPLICABILITY, j);
+        self.say_guard(j, x);
+        self.say_reached(x.a, x.c);
+    }
+
+    // Which condition of the concrete guard is false.
+    fn say_guard(&mut self, j: usize, x: Bindings) {
+        let row = false_guard(&self.dossier, j, x.c, x.i);
+        match self.conjunct_at(row) {
+            Some(b) => self
+                .page
+                .say_of(words::A_CONDITION_THAT_IS_FALSE, 0, b.from, b.to),
+            None => self.page.say(words::NO_SINGLE_CONDITION),
+        }
+    }
+
+    // ---- correctness
+
+    // The abstract steps with the inputs and outputs of the binding from the first on, each with why it does not do.
+    fn say_steps(&mut self, j: usize, x: Bindings, first: Option<usize>) {
+        let s = spans(&self.dossier, j);
+        let from = product(x.o, s.na);
+        let end = product(x.o.saturating_add(1), s.na);
+        let say = |k: usize, e: &mut Explanation<'_, '_>| {
+            let b = k.saturating_sub(from);
+            let after = Bindings { b, ..x };
+            let pair = Pair { a: b, c: x.k };
+            e.say_unrelated(words::AN_ABSTRACT_AFTER_STATE, j, after, pair);
+            first_of(e.next_step(j, x, k.saturating_add(1)), end)
+        };
+        self.say_states(first_of(first, end), say);
+    }
+
+    // Which abstract steps there are with these outputs, or one with others.
+    fn say_corrected(&mut self, j: usize, x: Bindings) {
+        let s = spans(&self.dossier, j);
+        let first = self.next_step(j, x, product(x.o, s.na));
+        if first_of(first, product(x.o.saturating_add(1), s.na)).is_some() {
+            self.page.say(words::ABSTRACT_STEPS);
+            self.say_steps(j, x, first);
+            return;
+        }
+        if let Some(q) = self.next_step(j, x, 0) {
+            let other = stepped(x, q, s.na);
+            self.page
+                .say_at(words::NO_ABSTRACT_STEP_WITH_THESE_OUTPUTS, j, other);
+        }
+    }
+
+    pub fn say_correctness(&mut self, j: usize, place: usize) {
+        let s = spans(&self.dossier, j);
+        let x = corrected(place, s);
+        self.say_binding(words::REFUTED_CORRECTNESS, j, x);
+        self.page
+            .say_at(words::THE_CONCRETE_STEP_OF_A_BINDING, j, x);
+        self.page.say_for(words::WHAT_HOLDS_OF_CORRECTNESS, j);
+        self.page.say_for(words::WHAT_FAILS_OF_CORRECTNESS, j);
+        self.say_corrected(j, x);
+        self.say_reached(x.a, x.c);
+    }
 }

@@ -3,7 +3,8 @@
 // Terms contain predicates and predicates terms, so the functions are one cycle, which stands in one file.
 // Form 3: where the next operator or connective stands, says the right side that is read.
 // Form 5: that there is room for what is written (`Room`) is of the symbols, the place and the lent array together: a struct of the three would carry the
-// clause more that the array stays the same. What stands at the place, a {, a ( or `in`, is asked by those that go on where it was seen.
+// clause more that the array stays the same. What stands at the place, a {, a ( or `in`, is asked by those that go on where it was seen;
+// a type of such places would hold the symbols too, a field and a lifetime more (as in form_nodes/ranges).
 ghost use Rattle.std.specs.Prelude.{◌≡◌, [], ◌∷◌, ℕ, ◌+◌, ◌≤◌, ◌<◌, length, get_or};
 ghost use Rattle.lexical.specs.Kinds as kind;
 ghost use Rattle.form.specs.Machine.{exact, a_term, an_operand, a_term_rest, a_rel, a_mem, a_right, a_brace, a_list, a_pairs, a_unary, a_paren, a_pred_rest};
@@ -20,10 +21,10 @@ use form_nodes::nodes::{
     division, empty, leaf, magnitude, name_number, put, put_domain, put_range,
 };
 use form_nodes::ranges::{close, domain, end, is_range, range, range_end};
-use form_nodes::{Read, Symbols, kinds};
+use form_nodes::{Read, Symbols, kinds, no_dossier};
 use lexical::bounds::DEPTH;
 use lexical::codes;
-use refusals::{Fault, Refusal};
+use refusals::Fault;
 
 // The operator of a level above the given one that stands at a place; the level of the connective, likewise.
 fn operator_at(s: &[u8], at: usize, above: u8) -> Option<Operator>
@@ -45,12 +46,7 @@ fn operand(y: &Symbols<'_>, from: Read, reach: Reach, code: &mut [u16]) -> Resul
     ensures { Reads y.now.kinds.now from.at from.count (an_operand reach.depth reach.names ∷ []) [] result × Made y.now.kinds.now y.now.values.now an_operand from.at from.count code.old code.new result }
 {
     let k = kind_at(y.kinds, from.at);
-    let Some(start) = start_of(k) else {
-        return Err(Fault {
-            place: from.at,
-            refusal: Refusal::NoDossier,
-        });
-    };
+    let start = start_of(k).ok_or(no_dossier(from.at))?;
     match start {
         Start::Leaf => {
             let m = leaf(y.kinds, y.values, from.at, code, from.count);
@@ -70,8 +66,7 @@ fn operand(y: &Symbols<'_>, from: Read, reach: Reach, code: &mut [u16]) -> Resul
             }
             let within = reach.deeper(from.at)?;
             let inner = operand(y, from.skip(), within, code)?;
-            let count = put(code, inner.count, shapes::PREFIX, from.at, u16::from(k), 0);
-            Ok(Read { count, ..inner })
+            Ok(inner.with_node(code, shapes::PREFIX, from.at, u16::from(k), 0))
         }
         Start::Bracket => {
             let within = reach.deeper(from.at)?;
@@ -146,14 +141,12 @@ fn term_more(
             let divisor = end(y, from.skip())?;
             let x = magnitude(y.kinds, y.values, from.at + 1);
             let kind = division(y.kinds, from.at);
-            let count = put(code, from.count, shapes::DIVIDED, from.at, x, kind);
-            Ok(Read { count, ..divisor })
+            Ok(divisor.with_node(code, shapes::DIVIDED, from.at, x, kind))
         }
         Operator::Loose | Operator::Tight => {
             let k = kind_at(y.kinds, from.at);
             let right = term_from(y, from.skip(), reach, o.level(), code)?;
-            let count = put(code, right.count, shapes::BINARY, from.at, u16::from(k), 0);
-            Ok(Read { count, ..right })
+            Ok(right.with_node(code, shapes::BINARY, from.at, u16::from(k), 0))
         }
     }
 }
@@ -181,12 +174,10 @@ fn listed(y: &Symbols<'_>, from: Read, reach: Reach, code: &mut [u16]) -> Result
     let first = term(y, from.skip(), reach, code)?;
     if kind_at(y.kinds, first.at) == codes::MAPLET {
         let sides = pairs(y, first, reach, code)?;
-        let count = put(code, sides.count, shapes::PAIRS, from.at, 0, 0);
-        return Ok(Read { count, ..sides });
+        return Ok(sides.with_node(code, shapes::PAIRS, from.at, 0, 0));
     }
     let rest = items(y, first, reach, code)?;
-    let count = put(code, rest.count, shapes::LISTED, from.at, 0, 0);
-    Ok(Read { count, ..rest })
+    Ok(rest.with_node(code, shapes::LISTED, from.at, 0, 0))
 }
 
 // {x : G | p}.
@@ -200,10 +191,10 @@ fn such(y: &Symbols<'_>, from: Read, reach: Reach, code: &mut [u16]) -> Result<R
     let over = y.name_at(g)?;
     let bar = close(y.kinds, Read { at: g + 1, ..from }, codes::BAR)?;
     let body = pred(y, bar, within, code)?;
-    let h = put(code, body.count, shapes::SET, g, over, 0);
+    let ranged = body.with_node(code, shapes::SET, g, over, 0);
     let x = name_number(y.kinds, y.values, from.at + 1);
-    let i = put(code, h, shapes::SUCH, from.at, x, 0);
-    close(y.kinds, Read { count: i, ..body }, codes::CLOSE_BRACE)
+    let named = ranged.with_node(code, shapes::SUCH, from.at, x, 0);
+    close(y.kinds, named, codes::CLOSE_BRACE)
 }
 
 // Behind the first term of {t, ..}.
@@ -215,23 +206,13 @@ fn items(y: &Symbols<'_>, from: Read, reach: Reach, code: &mut [u16]) -> Result<
     ensures { Reads y.now.kinds.now from.at from.count (a_list reach.depth reach.names ∷ []) [] result × Made y.now.kinds.now y.now.values.now some_items from.at from.count code.old code.new result }
 {
     match kind_at(y.kinds, from.at) {
-        codes::CLOSE_BRACE => {
-            let c = put(code, from.count, shapes::LAST, 0, 0, 0);
-            Ok(Read {
-                at: from.at + 1,
-                count: c,
-            })
-        }
+        codes::CLOSE_BRACE => Ok(from.skip().with_node(code, shapes::LAST, 0, 0, 0)),
         codes::COMMA => {
             let item = term(y, from.skip(), reach, code)?;
             let rest = items(y, item, reach, code)?;
-            let count = put(code, rest.count, shapes::ALSO, 0, 0, 0);
-            Ok(Read { count, ..rest })
+            Ok(rest.with_node(code, shapes::ALSO, 0, 0, 0))
         }
-        _ => Err(Fault {
-            place: from.at,
-            refusal: Refusal::NoDossier,
-        }),
+        _ => Err(no_dossier(from.at)),
     }
 }
 
@@ -244,23 +225,13 @@ fn pairs(y: &Symbols<'_>, from: Read, reach: Reach, code: &mut [u16]) -> Result<
     let arrow = close(y.kinds, from, codes::MAPLET)?;
     let right = term(y, arrow, reach, code)?;
     match kind_at(y.kinds, right.at) {
-        codes::CLOSE_BRACE => {
-            let c = put(code, right.count, shapes::LAST, 0, 0, 0);
-            Ok(Read {
-                at: right.at + 1,
-                count: c,
-            })
-        }
+        codes::CLOSE_BRACE => Ok(right.skip().with_node(code, shapes::LAST, 0, 0, 0)),
         codes::COMMA => {
             let left = term(y, right.skip(), reach, code)?;
             let rest = pairs(y, left, reach, code)?;
-            let count = put(code, rest.count, shapes::ALSO, 0, 0, 0);
-            Ok(Read { count, ..rest })
+            Ok(rest.with_node(code, shapes::ALSO, 0, 0, 0))
         }
-        _ => Err(Fault {
-            place: right.at,
-            refusal: Refusal::NoDossier,
-        }),
+        _ => Err(no_dossier(right.at)),
     }
 }
 
@@ -311,8 +282,8 @@ fn pred_rest(
 }
 
 // The connective of the level l that stands behind a predicate, and its right side.
-// Form 4: `put` stands twice. With reach and level chosen by an `if` in front of one call (tried), the answers behind it are by cases, each with the two that
-// stand here: `deeper` and the promise of `pred_from` are of one branch alone.
+// Form 4: `with_node` stands twice. With reach and level chosen by an `if` in front of one call (tried), the answers behind it are by cases, each with the two
+// that stand here: `deeper` and the promise of `pred_from` are of one branch alone.
 #[cycle(trees)]
 fn pred_more(
     y: &Symbols<'_>,
@@ -329,22 +300,10 @@ fn pred_more(
     if l == kinds::IMPLIES_LEVEL {
         let within = reach.deeper(at)?;
         let conclusion = pred_from(y, from.skip(), within, kinds::IFF_LEVEL, code)?;
-        let count = put(
-            code,
-            conclusion.count,
-            shapes::CONNECTED,
-            at,
-            u16::from(k),
-            0,
-        );
-        return Ok(Read {
-            count,
-            ..conclusion
-        });
+        return Ok(conclusion.with_node(code, shapes::CONNECTED, at, u16::from(k), 0));
     }
     let right = pred_from(y, from.skip(), reach, l, code)?;
-    let count = put(code, right.count, shapes::CONNECTED, at, u16::from(k), 0);
-    Ok(Read { count, ..right })
+    Ok(right.with_node(code, shapes::CONNECTED, at, u16::from(k), 0))
 }
 
 // A predicate that no connective stands in, but in parentheses.
@@ -361,17 +320,13 @@ fn unary(y: &Symbols<'_>, from: Read, reach: Reach, code: &mut [u16]) -> Result<
             atom(y, first, reach, code)
         }
         PredStart::Truth => {
-            let m = put(code, from.count, shapes::TRUTH, from.at, u16::from(k), 0);
-            Ok(Read {
-                at: from.at + 1,
-                count: m,
-            })
+            let behind = from.skip();
+            Ok(behind.with_node(code, shapes::TRUTH, from.at, u16::from(k), 0))
         }
         PredStart::Negation => {
             let within = reach.deeper(from.at)?;
             let denied = unary(y, from.skip(), within, code)?;
-            let count = put(code, denied.count, shapes::NEGATION, from.at, 0, 0);
-            Ok(Read { count, ..denied })
+            Ok(denied.with_node(code, shapes::NEGATION, from.at, 0, 0))
         }
         PredStart::Paren => {
             let within = reach.deeper(from.at)?;
@@ -420,25 +375,12 @@ fn atom(y: &Symbols<'_>, from: Read, reach: Reach, code: &mut [u16]) -> Result<R
     ensures { Reads y.now.kinds.now from.at from.count (a_rel reach.depth reach.names ∷ []) [] result × Made y.now.kinds.now y.now.values.now an_atom from.at from.count code.old code.new result }
 {
     let k = kind_at(y.kinds, from.at);
-    let Some(relation) = relation_of(k) else {
-        return Err(Fault {
-            place: from.at,
-            refusal: Refusal::NoDossier,
-        });
-    };
+    let relation = relation_of(k).ok_or(no_dossier(from.at))?;
     match relation {
         Relation::Membership => member(y, from, reach, code),
         Relation::Comparison => {
             let right = term(y, from.skip(), reach, code)?;
-            let count = put(
-                code,
-                right.count,
-                shapes::COMPARED,
-                from.at,
-                u16::from(k),
-                0,
-            );
-            Ok(Read { count, ..right })
+            Ok(right.with_node(code, shapes::COMPARED, from.at, u16::from(k), 0))
         }
         Relation::Pairing => {
             let second = term(y, from.skip(), reach, code)?;
@@ -461,8 +403,7 @@ fn member(y: &Symbols<'_>, from: Read, reach: Reach, code: &mut [u16]) -> Result
         return Ok(Read { count, ..ends });
     }
     let set = term(y, from.skip(), reach, code)?;
-    let count = put(code, set.count, shapes::MEMBER, from.at, u16::from(k), 0);
-    Ok(Read { count, ..set })
+    Ok(set.with_node(code, shapes::MEMBER, from.at, u16::from(k), 0))
 }
 
 // Behind t |-> t.
@@ -473,12 +414,8 @@ fn related(y: &Symbols<'_>, from: Read, reach: Reach, code: &mut [u16]) -> Resul
 {
     let k = kind_at(y.kinds, from.at);
     if !is_membership(k) {
-        return Err(Fault {
-            place: from.at,
-            refusal: Refusal::NoDossier,
-        });
+        return Err(no_dossier(from.at));
     }
     let set = term(y, from.skip(), reach, code)?;
-    let count = put(code, set.count, shapes::RELATED, from.at, u16::from(k), 0);
-    Ok(Read { count, ..set })
+    Ok(set.with_node(code, shapes::RELATED, from.at, u16::from(k), 0))
 }

@@ -10,10 +10,10 @@ use Rattle.lexical.specs.Symbols as symbol
 use Rattle.lexical.specs.Symbols.{Name, no_ending, Symbol, fixed}
 use Rattle.form.specs.Tree as tree
 use Rattle.form.specs.Tree.{Letters, End, Connective, Quantifier, Given, Parameter, Operation, Declaration, State, Pred, Term, Dossier}
-use Rattle.form.specs.Written.{connective_kind, quantifier_kind, binds, a_variable, an_operation}
+use Rattle.form.specs.Written.{connective_kind, quantifier_kind, a_variable, an_operation}
 use Rattle.form.specs.Machine.{Item, exact, a_declared, a_name, an_empty_rest, an_end, a_type, a_type_rest, a_domain, a_dossier, a_term, an_operand, a_term_rest, a_rel, a_mem, a_right, a_neg, a_num_rest}
 use Rattle.form.specs.Machine.{a_brace, a_named, a_first, a_list, a_pairs, a_unary, a_paren, a_pred_rest, some_entries, some_op_entries, some_bodies, some_elements, some_declarations, some_operations, some_parameters}
-use Rattle.form.specs.Machine.{Act, take, skip, stuck, then, starts, from_start, start_term, operate, start_pred, on_name, act, Start}
+use Rattle.form.specs.Machine.{Act, take, skip, stuck, then, starts, from_start, start_term, operate, start_pred, quantified, on_name, act, Start}
 use Rattle.form.proofs.Table.{by-table, Each, ◌&◌, Carried, symbol_of, ending_at}
 use Rattle.form.proofs.PlainSymbols.{plain_parameters, named, plain_term, plain_pred, plain_declarations, plain_domain, plain_state, plain_where, Bodies}
 use Rattle.form.proofs.Fill.{Fill, fill, Fills, print, Tail, operation, division, PredTail, connection, a_set, negated_term, goes_on, comparing, belonging, pairing}
@@ -142,12 +142,8 @@ with_given g b =
       operations = b.operations;
     }
 
-abbrev quantifies : (d k : ℕ) → Act
-quantifies d k =
-    then (a_declared (binds (suc k)) ∷ exact kind.colon ∷ a_domain ∷ exact kind.spot ∷ a_unary d (suc k) ∷ a_pred_rest d d (suc k) ∷ exact kind.close_paren ∷ [])
-
 -- what follows a ( by what follows a quantifier there
-quantifies-back : (γ : List Item) (d k : ℕ) (q : Quantifier) → Back γ (a_paren d k) (fixed (quantifier_kind q)) (quantifies d k)
+quantifies-back : (γ : List Item) (d k : ℕ) (q : Quantifier) → Back γ (a_paren d k) (fixed (quantifier_kind q)) (quantified d k)
 unfolding plain_term is code_of
 quantifies-back γ d k q h = (
   (quantifying q h.0 h.1.1.0 (joined h.1.1.1.1.0 h.1.1.1.1.1.0), h.1.1.1.1.1.1.1),

@@ -4,6 +4,7 @@ use mathlib.Core.Bool.{true, false}
 use mathlib.Core.List.{List, [], ◌∷◌}
 use mathlib.Core.Option.{Option, none, some}
 use Prim.Native.Nat.{ℕ}
+use Rattle.std.specs.Simd.Lanes.{Each1}
 use Rattle.lexical.specs.Kinds as kind
 use Rattle.lexical.specs.Symbols as symbol
 use Rattle.lexical.specs.Symbols.{Name, no_ending, Symbol, fixed, numeral}
@@ -196,8 +197,7 @@ fill (some_operations n) f w = plain_operations f w
 fill (some_parameters i o) f w = plain_parameters f (fixed kind.ABSTRACT ∷ w)
 
 abbrev pub Fills : List Item → Type 0
-Fills [] = Unit {0}
-Fills (i ∷ γ) = Fill i × Fills γ
+Fills γ = Each1 Fill γ
 
 abbrev pub print : (γ : List Item) → Fills γ → List Symbol
 print [] h = []

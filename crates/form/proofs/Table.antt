@@ -5,6 +5,7 @@ use mathlib.Core.List.{List, [], ◌∷◌, ◌++◌}
 use Prim.Native.Nat.{ℕ}
 use lib.Dec.{eqb, leb}
 use borrow.Author.Tests.{eqb-true}
+use Rattle.std.specs.Simd.Lanes.{Each1}
 use Rattle.lexical.specs.Kinds as kind
 use Rattle.lexical.specs.Kinds.{Kind, code_of, is, lookup}
 use Rattle.lexical.specs.Symbols.{Symbol, fixed, numeral, name, Ending, no_ending, prime, query, shriek, kind_of, kind_of_name}
@@ -97,8 +98,7 @@ is-equal k j e = sym (kind-back k) ∙ ap (kind_in kinds) (eqb-true (code_of k) 
 
 -- what holds of each entry of a table
 abbrev pub Each : {A : Type 0} → (Kind → A → Type 0) → List (Kind × A) → Type 0
-Each P [] = Unit {0}
-Each P (e ∷ t) = P e.0 e.1 × Each P t
+Each {A} P t = Each1 (λ (e : Kind × A). P e.0 e.1) t
 
 -- the first entry's proof, and the others'
 infixr 20 ◌&◌
@@ -125,8 +125,7 @@ Spelled (numeral n) = Unit {0}
 Spelled (name x) = Unit {0}
 
 abbrev pub AllSpelled : List Symbol → Type 0
-AllSpelled [] = Unit {0}
-AllSpelled (s ∷ w) = Spelled s × AllSpelled w
+AllSpelled w = Each1 Spelled w
 
 pub spelled-append : (u w : List Symbol) → AllSpelled u → AllSpelled w → AllSpelled (u ++ w)
 spelled-append [] w p q = q

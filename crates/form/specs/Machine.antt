@@ -57,7 +57,7 @@ start_pred d k γ s =
     lookup ((kind.TRUE, then γ) ∷ (kind.FALSE, then γ) ∷ (kind.NOT, take (opens (suc d)) (a_unary (suc d) k ∷ γ))
     ∷ (kind.open_paren, take (opens (suc d)) (a_paren (suc d) k ∷ γ)) ∷ []) (start_term d k (a_term_rest d k ∷ a_rel d k ∷ γ) s) s
 
-abbrev quantified : (d k : ℕ) → Act
+abbrev pub quantified : (d k : ℕ) → Act
 quantified d k =
     then (a_declared (binds (suc k)) ∷ exact kind.colon ∷ a_domain ∷ exact kind.spot ∷ a_unary d (suc k) ∷ a_pred_rest d d (suc k) ∷ exact kind.close_paren ∷ [])
 

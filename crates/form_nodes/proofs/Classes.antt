@@ -5,6 +5,7 @@ use mathlib.Core.List.{List, [], ◌∷◌}
 use Prim.Native.Nat.{ℕ, zero, suc, ◌+◌, ◌*◌, ◌≤◌, ◌<◌}
 use native.Mathlib.Omega.{arith}
 use lib.Dec.{eqb, leb}
+use Rattle.std.specs.Simd.Lanes.{Each1}
 use Rattle.std.specs.Prelude.{Option, Some, None}
 use borrow.Author.Tests.{eqb-true, eqb-false, ne_eqb, leb-true}
 use Rattle.lexical.specs.Lists.{all}
@@ -23,8 +24,7 @@ use Rattle.form.proofs.Table.{Each, kinds, kind_in, kind-back, is-equal}
 
 -- k is the code of no entry
 abbrev pub Misses : {A : Type 0} → ℕ → List (Kind × A) → Type 0
-Misses k [] = Unit {0}
-Misses k (e ∷ t) = (k ≡ code_of e.0 → ⊥) × Misses k t
+Misses {A} k t = Each1 (λ (e : Kind × A). k ≡ code_of e.0 → ⊥) t
 
 pub lookup-miss : {A : Type 0} (t : List (Kind × A)) (d : A) (κ : Kind) → Misses (code_of κ) t → lookup t d κ ≡ d
 unfolding lookup is

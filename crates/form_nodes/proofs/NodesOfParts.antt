@@ -3,10 +3,10 @@ use mathlib.Core.Path.{◌≡◌, refl, ap, ◌∙◌, sym, subst}
 use mathlib.Core.List.{List, [], ◌++◌, append_assoc, append-nil}
 use Prim.Native.Nat.{ℕ, zero, suc, ◌+◌, ◌≤◌}
 use native.Mathlib.Omega.{arith}
-use lib.ListN.{take, get_or}
+use lib.ListN.{take, get_or, length}
 use Rattle.lexical.specs.Kinds.{Kind, code_of, lookup, is}
 use Rattle.form.specs.Codes.{node}
-use Rattle.form_nodes.specs.FormPromises.{Writes, Closes, Missed, Shown, Starts, Classes, level_of}
+use Rattle.form_nodes.specs.FormPromises.{place_of, Writes, Closes, Missed, Shown, Starts, Classes, level_of}
 use Rattle.form_nodes.specs.Derivations.{Part, a_pred_from, a_unary, Derives, quantified, MadeAt, Made, MemberAt, DomainAt, domain_node, name_code}
 use Rattle.std.specs.Prelude.{Ok, Err}
 use Rattle.refusals.specs.declared.Fault.{Fault}
@@ -79,6 +79,9 @@ module _ {s ν : List ℕ} where
 -- one symbol that was read, or missed
 pub closed : {s : List ℕ} {at k n : ℕ} {e : Read} {r : Answer} → r ≡ Ok e → Closes s at k n r → ((e.at ≡ at + 1) × (get_or s at 0 ≡ k)) × (e.count ≡ n)
 closed {s} {at} {k} {n} q h = subst (λ (z : Answer). Shown (λ (e : ℕ). (e ≡ at + 1) × (get_or s at 0 ≡ k)) n z) q h.shown
+
+pub closed-within : {s : List ℕ} {at k n : ℕ} {e : Read} {r : Answer} → r ≡ Ok e → Closes s at k n r → e.at ≤ length s
+closed-within {s} q h = subst (λ (z : Answer). place_of z ≤ length s) q h.within
 
 pub unclosed : {s : List ℕ} {at k n : ℕ} {f : Fault} {r : Answer} → r ≡ Err f → Closes s at k n r → Missed s at k (Err f)
 unclosed {s} {at} {k} q h = subst (λ (z : Answer). Missed s at k z) q h.missed

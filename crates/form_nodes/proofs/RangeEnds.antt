@@ -15,8 +15,8 @@ use Rattle.lexical.specs.Kinds as kind
 use Rattle.lexical.specs.Kinds.{Kind, code_of, lookup, is}
 use Rattle.lexical.specs.Symbols.{Symbol, fixed, kind_of}
 use Rattle.refusals.specs.Refusals.{Refusal, deep}
+use Rattle.std.specs.Cmp.{booleans_Decides}
 use Rattle.std.proofs.lemmas.Bool.{and_parts, and_right}
-use Rattle.form.proofs.LexicalBooleanTests.{beq-true}
 use Rattle.form.specs.Written.{opens, binds}
 use Rattle.form.specs.Form.{kind_at, is_range_end, is_used, settled, excess, refuse}
 use Rattle.form_nodes.specs.FormPromises.{codes, range_end_at, RangeEnd, range_below, Members, Ranged, positive, negative, unranged}
@@ -42,7 +42,7 @@ kind-behind w m i = ap kind_of (get_or-drop m w i (fixed kind.END))
 
 member-code : (κ : Kind) → (is κ kind.IN || is κ kind.NOTIN) ≡ (leb 56 (code_of κ) && leb (code_of κ) 57)
 unfolding is code_of all
-member-code κ = beq-true _ _ (every-kind (λ (j : Kind). beq (is j kind.IN || is j kind.NOTIN) (leb 56 (code_of j) && leb (code_of j) 57)) κ refl refl)
+member-code κ = (booleans_Decides _ _).0 (every-kind (λ (j : Kind). beq (is j kind.IN || is j kind.NOTIN) (leb 56 (code_of j) && leb (code_of j) 57)) κ refl refl)
 
 pub range-test : (w : List Symbol) {s : List ℕ} → codes w ≡ s → (at : ℕ) → is_range_end (kind_before kind.END w at) (kind_at w at) (drop (suc at) w) ≡ range_end_at s at
 unfolding is_range_end range_end_at is code_of

@@ -158,6 +158,7 @@ Missed s at k (Err f) = (1 ≤ k → get_or s at 0 ≡ k → ⊥) × (f ≡ reco
 -- one symbol of the kind κ
 pub record Closes (s : List ℕ) (at k n : ℕ) (r : Answer) : Type 0 where
   pub ahead : Ahead at r
+  pub within : place_of r ≤ length s
   pub shown : Shown (λ (e : ℕ). (e ≡ at + 1) × (get_or s at 0 ≡ k)) n r
   pub missed : Missed s at k r
   pub reads : (κ : Kind) → code_of κ ≡ k → Reads s at n (machine.exact κ ∷ []) [] r

@@ -11,13 +11,13 @@ ghost use Rattle.form.specs.Codes.{node};
 ghost use Rattle.form_nodes.specs.Derivations.{Made, NameRead, an_operand, name_code, end_code, magnitude_code, division_code, leaf_node, range_node, domain_node};
 
 use crate::kinds::kind_at;
-use crate::{Read, Symbols};
+use crate::{Read, Symbols, no_dossier};
 use form::{node, shapes};
 use lexical::bounds::{LARGEST_NUMBER, SYMBOLS};
 use lexical::classes::at_or;
 use lexical::codes::is_name;
 use lexical::{codes, endings};
-use refusals::{Fault, Refusal};
+use refusals::Fault;
 
 // The last number of a symbol; and of a plain name the code, which its ending is added to.
 const LAST_SYMBOL: u16 = SYMBOLS as u16 - 1;
@@ -37,9 +37,20 @@ pub fn put(code: &mut [u16], n: usize, shape: u16, place: usize, x: u16, y: u16)
     n + node::SIZE
 }
 
+impl Read {
+    // With a node more behind the numbers that are written; `put` is called where no `Read` has the count, and where nothing goes on behind the node.
+    pub fn with_node(self, code: &mut [u16], shape: u16, place: usize, x: u16, y: u16) -> Read
+        requires { (self.count + 4 ≤ length code.old) × (place < 65536) }
+        ensures { (result.at ≡ self.at) × Writes code.old self.count (node shape place x y) code.new result.count }
+    {
+        let count = put(code, self.count, shape, place, x, y);
+        Read { count, ..self }
+    }
+}
+
 // The number of a name: of its letters, and its ending.
-// Form 1: a node has 0 where no name stands. Each of the 11 calls is for a place where one stands and writes what it gets: with an Option each would turn a
-// `None` that does not come into 0.
+// Form 1: a node has 0 where no name stands. Ten of the 11 calls are for a place where a name stands and write what they get: with an Option each would turn a
+// `None` that does not come into 0; `name_at` alone would make its fault of it.
 pub fn name_number(kinds: &[u8], values: &[u16], at: usize) -> u16
     ensures { result ≡ name_code kinds.now values.now at }
 {
@@ -57,10 +68,7 @@ impl Symbols<'_> {
         ensures { NameRead self.now.kinds.now self.now.values.now at result }
     {
         if !is_name(kind_at(self.kinds, at)) {
-            return Err(Fault {
-                place: at,
-                refusal: Refusal::NoDossier,
-            });
+            return Err(no_dossier(at));
         }
         Ok(name_number(self.kinds, self.values, at))
     }
@@ -149,21 +157,15 @@ pub fn put_domain(kinds: &[u8], values: &[u16], at: usize, code: &mut [u16], n: 
 
 // One name or two behind an `empty`.
 pub fn empty(y: &Symbols<'_>, from: Read, code: &mut [u16]) -> Result<Read, Fault>
-    requires { Room y.now.kinds.now code.old from.at from.count × (from.at < length y.now.kinds.now) × (get_or y.now.kinds.now from.at 0 ≡ 47) }
+    requires { Room y.now.kinds.now code.old from.at from.count × (get_or y.now.kinds.now from.at 0 ≡ 47) }
     ensures { Reads y.now.kinds.now (from.at + 1) (from.count + 4) (a_name ∷ an_empty_rest ∷ []) [] result × Made y.now.kinds.now y.now.values.now an_operand from.at from.count code.old code.new result }
 {
-    let at = from.at;
-    let x = y.name_at(at + 1)?;
-    let Ok(second) = y.name_at(at + 1 + 1) else {
-        let m = put(code, from.count, shapes::EMPTY_SET, at, x, 0);
-        return Ok(Read {
-            at: at + 1 + 1,
-            count: m,
-        });
+    let name = from.skip();
+    let x = y.name_at(name.at)?;
+    let behind = name.skip();
+    let Ok(second) = y.name_at(behind.at) else {
+        return Ok(behind.with_node(code, shapes::EMPTY_SET, from.at, x, 0));
     };
-    let m = put(code, from.count, shapes::EMPTY_PAIRS, at, x, second);
-    Ok(Read {
-        at: at + 1 + 1 + 1,
-        count: m,
-    })
+    let pairs = behind.skip();
+    Ok(pairs.with_node(code, shapes::EMPTY_PAIRS, from.at, x, second))
 }

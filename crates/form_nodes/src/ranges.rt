@@ -8,10 +8,10 @@ ghost use Rattle.form_nodes.specs.FormPromises.{Closes, Reads, Advances, Ranged,
 ghost use Rattle.form_nodes.specs.Derivations.{EndAt, RangeAt, DomainAt};
 
 use crate::kinds::{is_membership, kind_at};
-use crate::{Read, Symbols};
+use crate::{Read, Symbols, no_dossier};
 use lexical::codes;
 use lexical::codes::is_name;
-use refusals::{Fault, Refusal};
+use refusals::Fault;
 
 // A symbol of the kind with the code k.
 pub fn close(s: &[u8], from: Read, k: u8) -> Result<Read, Fault>
@@ -24,10 +24,7 @@ pub fn close(s: &[u8], from: Read, k: u8) -> Result<Read, Fault>
             ..from
         });
     }
-    Err(Fault {
-        place: from.at,
-        refusal: Refusal::NoDossier,
-    })
+    Err(no_dossier(from.at))
 }
 
 // A number, which may carry -.

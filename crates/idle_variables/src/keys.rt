@@ -1,7 +1,8 @@
 // Keys of bindings: their numbers with the digits of idle variables 0, so that bindings that differ in those alone have one key; marks by keys.
 // Form 5: `KeyAsked` is asked of a group and of the cells together, so that a type with it would carry both; callers make a group of a part's sizes in one
 // function (`blocks`) and lend the cells in another, where what is asked is shown: with the type it would be shown where the group is made, and that function
-// would ask for all that shows it.
+// would ask for all that shows it. A struct of both without what is asked: the groups of the definitions (nest_steps/specs/OpenBlocks) are of a part and of masks
+// alone, so that it would stand around `KeyGroup`, and each of the five calls would write a literal of it where two arguments stand.
 ghost use Rattle.std.specs.Prelude.{◌≡◌, ◌<◌, set};
 ghost use Rattle.idle_variables.specs.KeyPromises.{key_in, KeyAsked, MarkSays, Within};
 

@@ -1,4 +1,5 @@
 // Variables that do not matter: no test of some searches of a part mentions them. Of the state before only; a test of the state after does not read them.
+// Form 5: that u is one of the five searches: as in `plans`.
 #![tactic(auto)]
 
 pub mod keys;

@@ -2,16 +2,16 @@
 use mathlib.Core.Path.{◌≡◌, refl, sym, ap, subst, ◌∙◌}
 use mathlib.Core.Logic.{◌⊎◌, inl, inr}
 use mathlib.Core.List.{List, ◌++◌}
-use Prim.Native.Nat.{ℕ, ◌+◌, ◌-◌, ◌*◌, ◌<◌, ◌≤◌}
+use Prim.Native.Nat.{ℕ, zero, suc, ◌+◌, ◌-◌, ◌*◌, ◌<◌, ◌≤◌}
 use native.Mathlib.Omega.{arith}
 use native.Mathlib.Nat.{eq-or-lt_of_le, zero-add}
-use lib.ListN.{length, get_or, set, length-set, take, drop}
+use lib.ListN.{length, get_or, set, length-set, take, drop, get_or-eq_default}
 use lib.Seq.{get_or-set_same, get_or-set_other, length-take-le}
 use Rattle.std.proofs.lemmas.List.{length-drop}
 use borrow.Rule.Slice.PartMut.{mid_of, put_mid}
 use Rattle.std.specs.Simd.Lanes.{put_chunk}
 use Rattle.std.proofs.lemmas.Simd.{put_chunk_is, length-put_chunk, get_or-put_chunk_below, get_or-put_chunk_above, get_or-put_chunk_at}
-use Rattle.labels.specs.LabelPromises.{Between, Stored, titles_of, variable_of, TitlesGathered, VariableGathered, VariablesGathered}
+use Rattle.labels.specs.LabelPromises.{Between, Stored, titles_of, variable_of, four_of, TitlesGathered, VariableGathered, VariablesGathered}
 
 pub between_none : (from to : ℕ) (old : List ℕ) → Between from to old old
 between_none from to old = record { below = λ i h. refl; above = λ i h. refl; same_length = refl }
@@ -58,9 +58,25 @@ stored_next {n} {at} {x} {f} {old} {mid} {new} s room e w =
 pub stored_as : {n k at : ℕ} {f : ℕ → ℕ} {old new : List ℕ} → k ≡ n → Stored k at f old new → Stored n at f old new
 stored_as {at = at} {f} {old} {new} e s = subst (λ (j : ℕ). Stored j at f old new) e s
 
-pub stored-four : {x y z w : ℕ} {f : ℕ → ℕ} {old : List ℕ} → length old ≡ 4 → x ≡ f 0 → y ≡ f 1 → z ≡ f 2 → w ≡ f 3 → Stored 4 0 f old (set (set (set (set old 0 x) 1 y) 2 z) 3 w)
-stored-four {f = f} {old} long p q r s =
-    stored_next (stored_next (stored_next (stored_next (stored-none 0 f old) (omega arith) p refl) (omega arith) q refl) (omega arith) r refl) (omega arith) s refl
+pub stored-four : {f : ℕ → ℕ} {old new : List ℕ} → length old ≡ 4 → new ≡ four_of f → Stored 4 0 f old new
+stored-four {f} {old} {new} long e =
+    record {
+      others = record { below = λ i h. absurd (omega arith); above = λ i h. behind new i (omega (arith, same)) ∙ sym (behind old i (omega (arith, long))); same_length = same ∙ sym long };
+      each = λ k h. ap (λ (l : List ℕ). get_or l (0 + k) 0) e ∙ ap (λ (j : ℕ). get_or (four_of f) j 0) (zero-add k) ∙ one k h;
+    }
+  where
+    same : length new ≡ 4
+    same = ap length e
+
+    behind : (l : List ℕ) (i : ℕ) → length l ≤ i → get_or l i 0 ≡ 0
+    behind l i h = get_or-eq_default l 0 h
+
+    one : (k : ℕ) → k < 4 → get_or (four_of f) k 0 ≡ f k
+    one zero h = refl
+    one (suc zero) h = refl
+    one (suc (suc zero)) h = refl
+    one (suc (suc (suc zero))) h = refl
+    one (suc (suc (suc (suc k)))) h = absurd (omega arith)
 
 -- a part of the labels that is stored by itself
 pub stored-part : {n at to : ℕ} {f : ℕ → ℕ} {old new : List ℕ} → Stored n 0 f (mid_of at (to - at) old) new → to ≡ at + n → to ≤ length old

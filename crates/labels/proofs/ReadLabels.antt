@@ -1,10 +1,11 @@
 -- The labels gathered from the arrays that the reader leaves of a text are those of its dossier.
-use mathlib.Core.Path.{◌≡◌, refl, sym, ◌∙◌, subst}
+use mathlib.Core.Path.{◌≡◌, refl, sym, ap, ◌∙◌, subst}
 use mathlib.Core.List.{List, [], append-nil}
 use mathlib.Core.Option.{some}
 use Prim.Native.Nat.{ℕ, ◌+◌, ◌-◌, ◌*◌, ◌<◌, ◌≤◌}
 use native.Mathlib.Omega.{arith}
 use lib.ListN.{length, get_elem?, get_or, take, drop}
+use lib.Seq.{length-take-le}
 use Rattle.lexical.specs.Symbols.{no_ending}
 use Rattle.form.specs.Tree.{Letters, Given, elements, declarations, inward, outward, Parameter, Operation, Dossier}
 use Rattle.form.specs.Written.{ending_of}
@@ -26,7 +27,7 @@ use Rattle.readings.specs.ReaderOccurrences.{Occurs}
 use Rattle.readings.specs.ReaderPromises.{Written}
 use Rattle.readings.specs.ReaderGives.{Gives}
 use Rattle.readings.proofs.ReaderReadGives.{read-gives}
-use Rattle.readings.proofs.ReadReadings.{few-at, Rows, codes-long, rows-placed, operation-placed, abstracts-typed, concretes-typed, operation-typed}
+use Rattle.readings.proofs.ReadReadings.{few-at, Rows, rows-placed, operation-placed, abstracts-typed, concretes-typed, operation-typed}
 use Rattle.labels.specs.Labels.{SpeltAt, LabelsFrom, LabelsOf}
 use Rattle.labels.specs.LabelPromises.{ElementsGathered, TitlesGathered, VariablesGathered}
 use Rattle.readings.proofs.ReaderTextLetters.{dossier-in}
@@ -116,7 +117,7 @@ read-labels text nodes starts spans₀ table₀ groups₀ rows₀ firsts₀ span
     occur = dossier-in text given.form
 
     room : length (dossier_codes d ρ) ≤ length table₀
-    room = let q = codes-long nodes d ρ m h u in omega arith
+    room = let q : length (dossier_codes d ρ) ≡ m = ap length (sym u) ∙ length-take-le m nodes h in omega arith
 
     places : Rows d ρ groups
     places = rows-placed given w

@@ -1,5 +1,5 @@
 -- What the functions that gather labels promise, by numbers: which number of which array each label is. Nothing here need be believed.
-use Rattle.std.specs.Prelude.{◌≡◌, List, ℕ, zero, suc, ◌+◌, ◌-◌, ◌*◌, ◌/◌, ◌<◌, ◌≤◌, length, take, get_or}
+use Rattle.std.specs.Prelude.{◌≡◌, List, [], ◌∷◌, ℕ, zero, suc, ◌+◌, ◌-◌, ◌*◌, ◌/◌, ◌<◌, ◌≤◌, length, take, get_or}
 use Rattle.std.proofs.Math.Option.{some}
 use Rattle.std.proofs.Math.ListN.{get_elem?}
 use Rattle.form.specs.Tree.{Letters, Given, elements, Dossier}
@@ -32,6 +32,10 @@ variable_of nodes starts table q zero = name_byte nodes starts q
 variable_of nodes starts table q (suc zero) = get_or table (q + 7) 0
 variable_of nodes starts table q (suc (suc zero)) = get_or table (q + 6) 0
 variable_of nodes starts table q (suc (suc (suc k))) = get_or table (q + 4) 0
+
+-- four numbers one behind another
+abbrev pub four_of : (ℕ → ℕ) → List ℕ
+four_of f = f 0 ∷ f 1 ∷ f 2 ∷ f 3 ∷ []
 
 -- of the elements, where the first m nodes are those of a dossier
 pub record ElementsGathered (nodes starts : List ℕ) (m : ℕ) (old new : List ℕ) : Type 0 where

@@ -2,7 +2,7 @@
 #![tactic(auto)]
 
 ghost use Rattle.std.specs.Prelude.{◌≡◌, ◌+◌, ◌-◌, ◌*◌, ◌<◌, ◌≤◌, get_or, length};
-ghost use Rattle.labels.specs.LabelPromises.{name_byte, names_from, variable_of, Stored, ElementsGathered, TitlesGathered, VariablesGathered};
+ghost use Rattle.labels.specs.LabelPromises.{name_byte, names_from, variable_of, four_of, Stored, ElementsGathered, TitlesGathered, VariablesGathered};
 
 use form::{node, shapes};
 use lexical::{bounds, endings};
@@ -55,7 +55,7 @@ impl Names<'_> {
 // What reading a text leaves: the nodes of its dossier, where its symbols start, where its parts stand, the table, the groups of variables.
 #[derive(Clone, Copy)]
 pub struct Sources<'a> {
-    pub nodes: &'a [u16],
+    pub nodes: Nodes<'a>,
     pub starts: &'a [u16],
     pub spans: &'a [u16],
     pub table: &'a [u16],
@@ -65,46 +65,46 @@ pub struct Sources<'a> {
 // The first byte of the name whose node stands at q.
 fn name_byte(x: &Sources<'_>, q: usize) -> u16
     requires { q < 65536 }
-    ensures { result ≡ name_byte x.now.nodes.now x.now.starts.now q }
+    ensures { result ≡ name_byte x.now.nodes.numbers.now x.now.starts.now q }
 {
     look(
         x.starts,
-        usize::from(look(x.nodes, q + node::A) / endings::COUNT),
+        usize::from(look(x.nodes.numbers, q + node::A) / endings::COUNT),
     )
 }
 
 // The eight labels of a given set whose elements' nodes stand from q on; if it has fewer, the last labels are of other nodes, and nobody reads them.
 fn gather_set(x: &Sources<'_>, q: usize, labels: &mut [u16])
     requires { (q ≤ 16384) × (length labels.old ≡ 8) }
-    ensures { Stored 8 0 (names_from x.now.nodes.now x.now.starts.now q) labels.old labels.new }
+    ensures { Stored 8 0 (names_from x.now.nodes.numbers.now x.now.starts.now q) labels.old labels.new }
 {
+    // Form 3: after an adapter of `iter_mut` (`enumerate`, `zip`) nothing is known of what was written.
     for k in 0..ELEMENTS {
         labels[k] = name_byte(x, q + node::SIZE * k);
     }
 }
 
-// Of the elements: behind the heading of each given set; the first m numbers are the nodes of the dossier.
-pub fn gather_elements(x: &Sources<'_>, m: usize, labels: &mut [u16; LABELS])
-    requires { m ≤ 16384 }
-    ensures { ElementsGathered x.now.nodes.now x.now.starts.now m labels.old labels.new }
+// Of the elements: behind the heading of each given set.
+pub fn gather_elements(x: &Sources<'_>, labels: &mut [u16; LABELS])
+    requires { x.now.nodes.end ≤ 16384 }
+    ensures { ElementsGathered x.now.nodes.numbers.now x.now.starts.now x.now.nodes.end labels.old labels.new }
 {
-    let made = Nodes {
-        numbers: x.nodes,
-        end: m,
-    };
-    let mut q = made.sections().givens;
+    let nodes = x.nodes;
+    let mut q = nodes.sections().givens;
+    // Form 3: what the library promises of `chunks_exact_mut` says nothing of what the array ends as, and that is what is promised here.
     for g in 0..GIVEN_SETS {
-        let from = made.skip(q);
+        let from = nodes.skip(q);
         let at = ELEMENTS * g;
         gather_set(x, from, &mut labels[at..at + ELEMENTS]);
-        q = made.run(from, shapes::ELEMENT, shapes::ELEMENT);
+        q = nodes.run(from, shapes::ELEMENT, shapes::ELEMENT);
     }
 }
 
 // Of the operations' names.
 pub fn gather_titles(x: &Sources<'_>, labels: &mut [u16; LABELS])
-    ensures { TitlesGathered x.now.nodes.now x.now.starts.now x.now.spans.now labels.old labels.new }
+    ensures { TitlesGathered x.now.nodes.numbers.now x.now.starts.now x.now.spans.now labels.old labels.new }
 {
+    // Form 3: as in `gather_set`.
     for j in 0..span::MOST {
         let q = span_at(x.spans, span::of_operation(j));
         labels[TITLES + j] = name_byte(x, q.saturating_sub(node::SIZE));
@@ -112,23 +112,26 @@ pub fn gather_titles(x: &Sources<'_>, labels: &mut [u16; LABELS])
 }
 
 // The four labels of a place of the groups.
-fn gather_variable(x: &Sources<'_>, q: usize, labels: &mut [u16])
-    requires { (q < 65536) × (length labels.old ≡ 4) }
-    ensures { Stored 4 0 (variable_of x.now.nodes.now x.now.starts.now x.now.table.now q) labels.old labels.new }
+fn variable(x: &Sources<'_>, q: usize) -> [u16; VARIABLE]
+    requires { q < 65536 }
+    ensures { result ≡ four_of (variable_of x.now.nodes.numbers.now x.now.starts.now x.now.table.now q) }
 {
-    labels[0] = name_byte(x, q);
-    labels[1] = look(x.table, q + TYPE_SHAPE);
-    labels[2] = look(x.table, q + TYPE_SIDES);
-    labels[3] = look(x.table, q + TYPE_SIZE);
+    [
+        name_byte(x, q),
+        look(x.table, q + TYPE_SHAPE),
+        look(x.table, q + TYPE_SIDES),
+        look(x.table, q + TYPE_SIZE),
+    ]
 }
 
 // Of the variables in the groups.
 pub fn gather_variables(x: &Sources<'_>, labels: &mut [u16; LABELS])
-    ensures { VariablesGathered x.now.nodes.now x.now.starts.now x.now.table.now x.now.groups.now labels.old labels.new }
+    ensures { VariablesGathered x.now.nodes.numbers.now x.now.starts.now x.now.table.now x.now.groups.now labels.old labels.new }
 {
+    // Form 3: as in `gather_elements`.
     for i in 0..GROUPS {
         let q = usize::from(look(x.groups, i));
         let at = VARIABLES_FROM + VARIABLE * i;
-        gather_variable(x, q, &mut labels[at..at + VARIABLE]);
+        labels[at..at + VARIABLE].copy_from_slice(&variable(x, q));
     }
 }

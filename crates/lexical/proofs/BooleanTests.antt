@@ -1,17 +1,17 @@
 -- Laws of Boolean tests.
-use mathlib.Core.Path.{◌≡◌, refl, sym, ap, ◌∙◌}
-use mathlib.Core.Bool.{Bool, true, false, cond, ◌&&◌, beq, false≢true}
+use mathlib.Core.Path.{◌≡◌, refl, ap, ◌∙◌}
+use mathlib.Core.Bool.{Bool, true, false, cond, ◌&&◌, false≢true}
 use mathlib.Core.List.{List, ◌∷◌}
-use Rattle.std.proofs.lemmas.Bool.{and_from, and_parts}
+use Rattle.std.proofs.lemmas.Bool.{and_from, and_parts, cond_both}
 use Rattle.lexical.specs.Lists.{all}
 -- Form 8: laws of the library by other names, since its `and_left` and `and_right` say of a test that it is false, and those of this file that it is true.
 pub use Rattle.std.proofs.lemmas.Bool.{and_left as and-left-false, and_right as and-right-false, and_parts as both-true, false_from_ne_true as not-true}
 pub use mathlib.Core.Bool.{or-false as or-none}
 
 -- what holds of both branches holds of the branch taken
+-- Form 8: the library's `cond_both` without the value of the test, which none of the callers needs: they would write `(λ e. ..)` twice each.
 pub on-cond : {A : Type 0} (P : A → Type 0) (t : Bool) (x y : A) → P x → P y → P (cond t x y)
-on-cond P true x y p q = p
-on-cond P false x y p q = q
+on-cond P t x y p q = cond_both t x y P (λ e. p) (λ e. q)
 
 -- Form 8: the library's `and_from` without its two tests, which the facts show.
 pub and_both : {a b : Bool} → a ≡ true → b ≡ true → (a && b) ≡ true
@@ -24,13 +24,6 @@ and_left a b e = (and_parts a b e).0
 
 pub and_right : (a b : Bool) → (a && b) ≡ true → b ≡ true
 and_right a b e = (and_parts a b e).1
-
--- tests that the library's `beq` finds the same are equal
-pub beq-true : (a b : Bool) → beq a b ≡ true → a ≡ b
-beq-true true true e = refl
-beq-true true false e = sym e
-beq-true false true e = e
-beq-true false false e = refl
 
 -- a test of all members of a list: of the first one and of the others
 pub all-parts : {A : Type 0} (f : A → Bool) (x : A) (xs : List A) → all f (x ∷ xs) ≡ true → (f x ≡ true) × (all f xs ≡ true)

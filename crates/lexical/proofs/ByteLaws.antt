@@ -8,6 +8,7 @@ use native.Mathlib.Omega.{arith}
 use lib.Dec.{eqb, leb}
 use borrow.Author.Tests.{leb-true, eqb-true, eqb-false, ne_eqb}
 use lib.ListN.{length, take}
+use Rattle.std.specs.Simd.Lanes.{Each1}
 use Rattle.std.specs.List.{prefix_len}
 use Rattle.lexical.specs.Lists.{bytes, any}
 use Rattle.lexical.specs.Symbols.{Class, letter, digit, mark, other, between, class_of, in_run, run}
@@ -36,8 +37,7 @@ outside lo hi b f = on (leb lo b) refl (leb b hi) refl
     on false p false q = refl
 
 abbrev Misses : ℕ → List ℕ → Type 0
-Misses b [] = Unit {0}
-Misses b (x ∷ l) = (b ≡ x → ⊥) × Misses b l
+Misses b l = Each1 (λ (x : ℕ). b ≡ x → ⊥) l
 
 any-miss : (b : ℕ) (l : List ℕ) → Misses b l → any (eqb b) l ≡ false
 unfolding any

@@ -8,6 +8,7 @@ use Prim.Native.String.{String}
 use native.Mathlib.Omega.{arith}
 use native.Mathlib.Nat.{add-zero}
 use lib.Dec.{eqb, ltb}
+use Rattle.std.specs.Simd.Lanes.{Each1}
 use Rattle.std.specs.Prelude as prelude
 use Rattle.std.specs.Prelude.{Some, None}
 use borrow.Author.Tests.{ltb-true, ltb-false, eqb-true, eq-eqb, ne_eqb, le-leb, lt-leb}
@@ -92,8 +93,7 @@ same_turned v w e = on (same v w) refl
     on false h = refl
 
 abbrev EachFits : List (String × Kind) → Type 0
-EachFits [] = Unit {0}
-EachFits (e ∷ t) = (fitsb 8 (bytes e.0) ≡ true) × EachFits t
+EachFits t = Each1 (λ (e : String × Kind). fitsb 8 (bytes e.0) ≡ true) t
 
 words-fit : EachFits words
 unfolding fitsb bytes
@@ -186,8 +186,7 @@ pub reserved-none : (s : List ℕ) (at n : ℕ) → n ≡ length (run (drop at s
 reserved-none s at n l h = let j : 8 < length (run (drop at s)) = omega arith in sym (ap word_code (reserved-long words (run (drop at s)) words-fit j))
 
 abbrev Misses : ℕ → List (String × Kind) → Type 0
-Misses k [] = Unit {0}
-Misses k (e ∷ t) = (k ≡ packed 8 (bytes e.0) → ⊥) × Misses k t
+Misses k t = Each1 (λ (e : String × Kind). k ≡ packed 8 (bytes e.0) → ⊥) t
 
 keyed-none : (t : List (String × Kind)) (k : ℕ) → Misses k t → None ≡ keyed t k
 unfolding keyed

@@ -1,8 +1,8 @@
 -- The variables in reach by the nodes of their declarations: the marks of these nodes are the sizes of the variables.
-use mathlib.Core.Path.{◌≡◌, refl, ap, ap₂, sym, subst, ◌∙◌}
+use mathlib.Core.Path.{◌≡◌, refl, ap, ap₂, sym, ◌∙◌}
 use mathlib.Core.Bool.{Bool, true, false}
 use mathlib.Core.List.{List, [], ◌∷◌, ◌++◌, map}
-use mathlib.Core.Option.{Option, none, some}
+use mathlib.Core.Option.{Option, none, some, none-ne-some}
 use Prim.Native.Nat.{ℕ, suc, ◌+◌, ◌*◌, ◌/◌}
 use native.Mathlib.Nat.{add-zero}
 use native.Mathlib.Omega.{arith}
@@ -13,8 +13,8 @@ use Rattle.lexical.specs.Symbols.{Name, Ending, no_ending, prime, query, shriek}
 use Rattle.form.specs.Tree.{Letters, TypeForm, given_type, power_type, range_type, arrow_type, relation, partial, total, range, Given, Declaration, Parameter, Direction, inward, outward}
 use Rattle.form.specs.Written.{ending_of}
 use Rattle.form.specs.Codes.{Numbering, name_number, number_of_name, declaration_code, declaration_codes, parameter_codes, type_width}
-use Rattle.static_rules.specs.Carriers.{Carrier, elements_of, subsets_of, pairs_in, Variable, largest, carrier_of, given_of}
-use Rattle.static_rules.specs.Scope.{variables, parameters_of, is_input, is_output}
+use Rattle.static_rules.specs.Carriers.{Carrier, elements_of, subsets_of, pairs_in, Variable, largest, for_given, for_givens, carrier_of, given_of}
+use Rattle.static_rules.specs.Scope.{with_carrier, variables, parameters_of, is_input, is_output}
 use Rattle.names.proofs.PassAgreesTypes.{Carries, type-carries}
 use Rattle.term_sizes.specs.SizesByNumber.{Bounds, domain_bound}
 use Rattle.binding_counts.specs.DeclaredTypesFit as fits
@@ -43,20 +43,6 @@ shown-append (v ∷ vs) ws ρ S = ap (λ (T : Bounds). set T (name_number ρ v.c
 
 -- ---- one declaration ----
 
--- withCarrier of static_rules/specs/Scope, and forGiven and forGivens of static_rules/specs/Carriers, which are private there
-abbrev pub carried : Name → Option Carrier → List Variable → List Variable
-carried x none vs = vs
-carried x (some c) vs = record { called = x; carrier = c } ∷ vs
-
-abbrev over_given : (Given → Carrier) → Option Given → Option Carrier
-over_given f none = none
-over_given f (some g) = some (f g)
-
-abbrev over_givens : (Given → Given → Carrier) → Option Given → Option Given → Option Carrier
-over_givens f none h = none
-over_givens f (some g) none = none
-over_givens f (some g) (some h) = some (f g h)
-
 -- the size of a carrier, where there is one
 abbrev SizeIs : Option Carrier → ℕ → Type 0
 SizeIs none n = Unit {0}
@@ -69,11 +55,11 @@ type_bound (power_type g) = 0
 type_bound (range_type r) = domain_bound (range r)
 type_bound (arrow_type a g h) = 0
 
-one_given : (f : Given → Carrier) → ((g : Given) → largest (f g) ≡ 0) → (o : Option Given) → SizeIs (over_given f o) 0
+one_given : (f : Given → Carrier) → ((g : Given) → largest (f g) ≡ 0) → (o : Option Given) → SizeIs (for_given f o) 0
 one_given f h none = tt
 one_given f h (some g) = h g
 
-two-givens : (f : Given → Given → Carrier) → ((g k : Given) → largest (f g k) ≡ 0) → (o p : Option Given) → SizeIs (over_givens f o p) 0
+two-givens : (f : Given → Given → Carrier) → ((g k : Given) → largest (f g k) ≡ 0) → (o p : Option Given) → SizeIs (for_givens f o p) 0
 two-givens f h none p = tt
 two-givens f h (some g) none = tt
 two-givens f h (some g) (some k) = h g k
@@ -85,19 +71,15 @@ size_is gs (power_type g) h = one_given subsets_of (λ k. refl) (given_of gs g)
 size_is gs (range_type r) h = sym (domain-bound (λ (x : Letters). Unit {0}) (range r) h)
 size_is gs (arrow_type a g k) h = two-givens (pairs_in a) (λ x y. refl) (given_of gs g) (given_of gs k)
 
-abbrev IsNone : Option Carrier → Type 0
-IsNone none = Unit {0}
-IsNone (some c) = ⊥
-
 carried-shown : (ρ : Numbering) (x : Name) (o : Option Carrier) (c : Carrier) (n : ℕ) (vs : List Variable) (S : Bounds) → o ≡ some c → SizeIs o n
-    → shown_on (carried x o vs) ρ S ≡ set (shown_on vs ρ S) (name_number ρ x) n
+    → shown_on (with_carrier x o vs) ρ S ≡ set (shown_on vs ρ S) (name_number ρ x) n
 unfolding shown_on
-carried-shown ρ x none c n vs S e h = absurd (subst IsNone e tt)
+carried-shown ρ x none c n vs S e h = absurd (none-ne-some c e)
 carried-shown ρ x (some k) c n vs S e h = ap (set (shown_on vs ρ S) (name_number ρ x)) h
 
 -- a declared type without faults: its variable is in reach with its size
 declared-shown : (gs : List Given) (ρ : Numbering) (x : Name) (t : TypeForm) (i : ℕ) (es : List Variable) (S : Bounds) → EndsNear t → Carries gs t
-    → shown_on (carried x (carrier_of gs t) es) ρ S ≡ set (shown_on es ρ S) (name_number ρ x) (type_bound t)
+    → shown_on (with_carrier x (carrier_of gs t) es) ρ S ≡ set (shown_on es ρ S) (name_number ρ x) (type_bound t)
 declared-shown gs ρ x t i es S h k = carried-shown ρ x (carrier_of gs t) k.carrier (type_bound t) es S k.carries (size_is gs t h)
 
 -- the nodes of a declaration
@@ -159,8 +141,8 @@ out_of-inputs ρ x y e = omega arith
 
 carried-apart : (ρ : Numbering) (x y : Letters) (o : Option Carrier) (vs : List Variable) (S : Bounds) (n : ℕ)
     → shown_on vs ρ (set S (number_of_name ρ y shriek) n) ≡ set (shown_on vs ρ S) (number_of_name ρ y shriek) n
-    → shown_on (carried (record { letters = x; ending = query }) o vs) ρ (set S (number_of_name ρ y shriek) n)
-    ≡ set (shown_on (carried (record { letters = x; ending = query }) o vs) ρ S) (number_of_name ρ y shriek) n
+    → shown_on (with_carrier (record { letters = x; ending = query }) o vs) ρ (set S (number_of_name ρ y shriek) n)
+    ≡ set (shown_on (with_carrier (record { letters = x; ending = query }) o vs) ρ S) (number_of_name ρ y shriek) n
 unfolding shown_on
 carried-apart ρ x y none vs S n h = h
 carried-apart ρ x y (some c) vs S n h =
@@ -187,32 +169,15 @@ outputs_of gs xs = parameters_of gs outward xs
 
 -- a parameter in front
 module _ (gs : List Given) (x : Parameter) (xs : List Parameter) where
-  abbrev front : Ending → List Variable → List Variable
-  front e vs = carried (record { letters = x.declaration.declared; ending = e }) (carrier_of gs x.declaration.type) vs
+  -- among those whose direction passes a test, if its own does
+  abbrev placed_by : Bool → (Direction → Bool) → List Parameter
+  placed_by b f =
+      let ys : List Parameter = filter (λ (y : Parameter). f y.direction) xs in elim b as (λ (c : Bool). List Parameter) [ true ↦ x ∷ ys | false ↦ ys ]
 
-  input-in : x.direction ≡ inward → inputs_of gs (x ∷ xs) ≡ front query (inputs_of gs xs)
-  unfolding parameters_of filter variables
-  input-in e =
-      ap (λ (d : Direction). variables gs query (map (λ (y : Parameter). y.declaration)
-      (elim (is_input d) as (λ (b : Bool). List Parameter) [ true ↦ x ∷ filter (λ (y : Parameter). is_input y.direction) xs | false ↦ filter (λ (y : Parameter). is_input y.direction) xs ]))) e
-
-  input-out : x.direction ≡ inward → outputs_of gs (x ∷ xs) ≡ outputs_of gs xs
-  unfolding parameters_of filter
-  input-out e =
-      ap (λ (d : Direction). variables gs shriek (map (λ (y : Parameter). y.declaration)
-      (elim (is_output d) as (λ (b : Bool). List Parameter) [ true ↦ x ∷ filter (λ (y : Parameter). is_output y.direction) xs | false ↦ filter (λ (y : Parameter). is_output y.direction) xs ]))) e
-
-  output-in : x.direction ≡ outward → inputs_of gs (x ∷ xs) ≡ inputs_of gs xs
-  unfolding parameters_of filter
-  output-in e =
-      ap (λ (d : Direction). variables gs query (map (λ (y : Parameter). y.declaration)
-      (elim (is_input d) as (λ (b : Bool). List Parameter) [ true ↦ x ∷ filter (λ (y : Parameter). is_input y.direction) xs | false ↦ filter (λ (y : Parameter). is_input y.direction) xs ]))) e
-
-  output-out : x.direction ≡ outward → outputs_of gs (x ∷ xs) ≡ front shriek (outputs_of gs xs)
-  unfolding parameters_of filter variables
-  output-out e =
-      ap (λ (d : Direction). variables gs shriek (map (λ (y : Parameter). y.declaration)
-      (elim (is_output d) as (λ (b : Bool). List Parameter) [ true ↦ x ∷ filter (λ (y : Parameter). is_output y.direction) xs | false ↦ filter (λ (y : Parameter). is_output y.direction) xs ]))) e
+  by-direction : (e : Ending) (f : Direction → Bool) {b : Bool} → f x.direction ≡ b
+      → variables gs e (map (λ (y : Parameter). y.declaration) (filter (λ (y : Parameter). f y.direction) (x ∷ xs))) ≡ variables gs e (map (λ (y : Parameter). y.declaration) (placed_by b f))
+  unfolding filter
+  by-direction e f h = ap (λ (b : Bool). variables gs e (map (λ (y : Parameter). y.declaration) (placed_by b f))) h
 
 head-fit : {gs : List Given} {d : Declaration} {ds : List Declaration} → TypesFit gs (d ∷ ds) → Carries gs d.type
 head-fit {gs} {d} (fits.one_type j f t) = type-carries gs d.type j f
@@ -236,11 +201,12 @@ module _ (gs : List Given) (ρ : Numbering) (S : Bounds) where
 
   parameter-one : (x : Parameter) (xs : List Parameter) → Carries gs x.declaration.type → EndsNear x.declaration.type → (e : Direction) → x.direction ≡ e
       → added x (ending_of e) (both xs) ≡ both (x ∷ xs)
+  unfolding parameters_of variables
   parameter-one x xs k h inward e =
-      sym (ap₂ (λ (vs ws : List Variable). shown_on vs ρ (shown_on ws ρ S)) (input-in gs x xs e) (input-out gs x xs e)
+      sym (ap₂ (λ (vs ws : List Variable). shown_on vs ρ (shown_on ws ρ S)) (by-direction gs x xs query is_input (ap is_input e)) (by-direction gs x xs shriek is_output (ap is_output e))
       ∙ declared-shown gs ρ (record { letters = x.declaration.declared; ending = query }) x.declaration.type 0 (inputs_of gs xs) (shown_on (outputs_of gs xs) ρ S) h k)
   parameter-one x xs k h outward e =
-      sym (ap₂ (λ (vs ws : List Variable). shown_on vs ρ (shown_on ws ρ S)) (output-in gs x xs e) (output-out gs x xs e)
+      sym (ap₂ (λ (vs ws : List Variable). shown_on vs ρ (shown_on ws ρ S)) (by-direction gs x xs query is_input (ap is_input e)) (by-direction gs x xs shriek is_output (ap is_output e))
       ∙ ap (shown_on (inputs_of gs xs) ρ) (declared-shown gs ρ (record { letters = x.declaration.declared; ending = shriek }) x.declaration.type 0 (outputs_of gs xs) S h k)
       ∙ apart xs)
     where

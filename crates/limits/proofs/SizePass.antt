@@ -109,65 +109,74 @@ module _ (ρ : Numbering) (d : Dossier) (S : Bounds) (clear : Clear S) where
 
 -- ---- the states, and what stands behind them ----
 
-pub states-seen : (nodes spans a c none : List ℕ) (e₁ e₂ : ℕ) (S U₁ U₂ : Bounds) (f g r : ℕ) → none ≡ [] → e₁ ≡ span spans 2 → e₂ ≡ span spans 5
-    → ContextSeen nodes a none 0 none e₁ S U₁ f → ContextSeen nodes c none 0 none e₂ U₁ U₂ g → r ≡ lesser f g → (m : ℕ) → PartSeen nodes spans m a c states_over S U₂ r
+pub states-seen : (nodes spans a c none : List ℕ) (e₁ e₂ : ℕ) (S U₁ U₂ : Bounds) (f g r : ℕ) → PartOf nodes (span spans 0) (span spans 1) a → PartOf nodes (span spans 3) (span spans 4) c
+    → none ≡ [] → e₁ ≡ span spans 2 → e₂ ≡ span spans 5
+    → ContextSeen nodes a none 0 none e₁ S U₁ f → ContextSeen nodes c none 0 none e₂ U₁ U₂ g → r ≡ lesser f g → (m : ℕ) → PartSeen nodes spans m states_over S U₂ r
 unfolding states_over
-states-seen nodes spans a c none e₁ e₂ S U₁ U₂ f g r o q₁ q₂ k₁ k₂ e m =
+states-seen nodes spans a c none e₁ e₂ S U₁ U₂ f g r pa pc o q₁ q₂ k₁ k₂ e m =
     record {
       kept = λ h. k₂.kept (clear-on S U₁ (k₁.kept h) h) ∙ k₁.kept h;
       right =
           λ d ρ h y.
           let w = y.structured in
+          let a-is = part-stands nodes _ _ a _ pa w.abstract.variables in
+          let c-is = part-stands nodes _ _ c _ pc w.concrete.variables in
           e
           ∙ ap₂ lesser
           (over-of nodes a none 0 none e₁ S U₁ f k₁ _ _ _ (length S) _ ρ (unprimed d d.abstract) q₁ w.abstract.predicate
-          (state-table ρ d S h d.abstract y.fit.abstracts y.near.abstracts a none _ y.abstracts o))
+          (state-table ρ d S h d.abstract y.fit.abstracts y.near.abstracts a none _ a-is o))
           (over-of nodes c none 0 none e₂ U₁ U₂ g k₂ _ _ _ (length S) _ ρ (unprimed d d.concrete) q₂ w.concrete.predicate
           (ap (λ (T : Bounds). marked true c none 0 none T) (k₁.kept h)
-          ∙ state-table ρ d S h d.concrete y.fit.concretes y.near.concretes c none _ y.concretes o));
+          ∙ state-table ρ d S h d.concrete y.fit.concretes y.near.concretes c none _ c-is o));
     }
 
-pub conditions-seen : (nodes spans a c none : List ℕ) (e₁ e₂ e₃ : ℕ) (S U₁ U₂ U₃ : Bounds) (f g h r : ℕ) → none ≡ [] → e₁ ≡ span spans 6 → e₂ ≡ span spans 7 → e₃ ≡ span spans 8
+pub conditions-seen : (nodes spans a c none : List ℕ) (e₁ e₂ e₃ : ℕ) (S U₁ U₂ U₃ : Bounds) (f g h r : ℕ)
+    → PartOf nodes (span spans 0) (span spans 1) a → PartOf nodes (span spans 3) (span spans 4) c → none ≡ [] → e₁ ≡ span spans 6 → e₂ ≡ span spans 7 → e₃ ≡ span spans 8
     → ContextSeen nodes a none 0 none e₁ S U₁ f → ContextSeen nodes c none 0 none e₂ U₁ U₂ g → ContextSeen nodes a c 0 none e₃ U₂ U₃ h → r ≡ lesser f (lesser g h)
-    → (m : ℕ) → PartSeen nodes spans m a c conditions_over S U₃ r
+    → (m : ℕ) → PartSeen nodes spans m conditions_over S U₃ r
 unfolding conditions_over
-conditions-seen nodes spans a c none e₁ e₂ e₃ S U₁ U₂ U₃ f g h r o q₁ q₂ q₃ k₁ k₂ k₃ e m =
+conditions-seen nodes spans a c none e₁ e₂ e₃ S U₁ U₂ U₃ f g h r pa pc o q₁ q₂ q₃ k₁ k₂ k₃ e m =
     record {
       kept = λ l. k₃.kept (clear-on S U₂ (two l) l) ∙ two l;
       right =
           λ d ρ l y.
           let w = y.structured in
+          let a-is = part-stands nodes _ _ a _ pa w.abstract.variables in
+          let c-is = part-stands nodes _ _ c _ pc w.concrete.variables in
           e
           ∙ ap₂ lesser
           (over-of nodes a none 0 none e₁ S U₁ f k₁ _ _ _ (length S) _ ρ (unprimed d d.abstract) q₁ w.ainit
-          (state-table ρ d S l d.abstract y.fit.abstracts y.near.abstracts a none _ y.abstracts o))
+          (state-table ρ d S l d.abstract y.fit.abstracts y.near.abstracts a none _ a-is o))
           (ap₂ lesser
           (over-of nodes c none 0 none e₂ U₁ U₂ g k₂ _ _ _ (length S) _ ρ (unprimed d d.concrete) q₂ w.cinit
           (ap (λ (T : Bounds). marked true c none 0 none T) (k₁.kept l)
-          ∙ state-table ρ d S l d.concrete y.fit.concretes y.near.concretes c none _ y.concretes o))
+          ∙ state-table ρ d S l d.concrete y.fit.concretes y.near.concretes c none _ c-is o))
           (over-of nodes a c 0 none e₃ U₂ U₃ h k₃ _ _ _ (length S) _ ρ (unprimed d d.abstract ++ unprimed d d.concrete) q₃ w.retrieve
           (ap (λ (T : Bounds). marked true a c 0 none T) (two l)
-          ∙ states-table ρ d S l d.abstract d.concrete y.fit.abstracts y.near.abstracts y.fit.concretes y.near.concretes a c none _ _ y.abstracts y.concretes o)));
+          ∙ states-table ρ d S l d.abstract d.concrete y.fit.abstracts y.near.abstracts y.fit.concretes y.near.concretes a c none _ _ a-is c-is o)));
     }
   where
     two : Clear S → U₂ ≡ S
     two l = k₂.kept (clear-on S U₁ (k₁.kept l) l) ∙ k₁.kept l
 
-pub operation-seen : (nodes spans a c p : List ℕ) (k x y e₁ e₂ : ℕ) (S U₁ U₂ : Bounds) (f g r : ℕ) → x ≡ span spans (9 + 4 * k) → y ≡ span spans (9 + 4 * k + 1) → PartOf nodes x y p
+pub operation-seen : (nodes spans a c p : List ℕ) (k x y e₁ e₂ : ℕ) (S U₁ U₂ : Bounds) (f g r : ℕ) → PartOf nodes (span spans 0) (span spans 1) a → PartOf nodes (span spans 3) (span spans 4) c
+    → x ≡ span spans (9 + 4 * k) → y ≡ span spans (9 + 4 * k + 1) → PartOf nodes x y p
     → e₁ ≡ span spans (9 + 4 * k + 2) → e₂ ≡ span spans (9 + 4 * k + 3) → ContextSeen nodes a a 1 p e₁ S U₁ f → ContextSeen nodes c c 1 p e₂ U₁ U₂ g → r ≡ lesser f g
-    → OperationSeen nodes spans k a c S U₂ r
+    → OperationSeen nodes spans k S U₂ r
 unfolding operation_over
-operation-seen nodes spans a c p k x y e₁ e₂ S U₁ U₂ f g r qx qy h q₁ q₂ k₁ k₂ e =
+operation-seen nodes spans a c p k x y e₁ e₂ S U₁ U₂ f g r pa pc qx qy h q₁ q₂ k₁ k₂ e =
     record {
       kept = λ l. k₂.kept (clear-on S U₁ (k₁.kept l) l) ∙ k₁.kept l;
       right =
           λ m d ρ i o l z at t u.
+          let a-is = part-stands nodes _ _ a _ pa z.structured.abstract.variables in
+          let c-is = part-stands nodes _ _ c _ pc z.structured.concrete.variables in
           let is = part-stands nodes _ _ p _ (part-read nodes _ _ _ _ p qx qy h) at.parameters in
           e
           ∙ ap₂ lesser
           (over-of nodes a a 1 p e₁ S U₁ f k₁ _ _ _ (length S) _ ρ (operation_reach d d.abstract o) q₁ at.abstractly
-          (operation-table ρ d S l d.abstract z.fit.abstracts z.near.abstracts o t u a p _ _ z.abstracts is))
+          (operation-table ρ d S l d.abstract z.fit.abstracts z.near.abstracts o t u a p _ _ a-is is))
           (over-of nodes c c 1 p e₂ U₁ U₂ g k₂ _ _ _ (length S) _ ρ (operation_reach d d.concrete o) q₂ at.concretely
           (ap (λ (T : Bounds). marked true c c 1 p T) (k₁.kept l)
-          ∙ operation-table ρ d S l d.concrete z.fit.concretes z.near.concretes o t u c p _ _ z.concretes is));
+          ∙ operation-table ρ d S l d.concrete z.fit.concretes z.near.concretes o t u c p _ _ c-is is));
     }

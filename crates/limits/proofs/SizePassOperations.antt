@@ -11,7 +11,6 @@ use Rattle.form.specs.Headings.{operations_at, operation_length}
 use Rattle.form.specs.Codes.{Numbering, pred_width}
 use Rattle.static_rules.specs.Scope.{contexts, operation_contexts, concrete_taken}
 use Rattle.type_rules.specs.TypesByNumber.{lesser}
-use Rattle.node_spans.specs.ParserSections.{PartOf}
 use Rattle.names.proofs.TypesAgreeLeast.{lesser-zero, lesser-assoc, zero-lesser}
 use Rattle.node_spans.specs.Spans.{span, OperationsAt, one_more}
 use Rattle.term_sizes.specs.SizesByNumber.{Bounds}
@@ -20,7 +19,6 @@ use Rattle.binding_counts.specs.DeclaredTypesFit.{OperationsFit}
 use Rattle.limits.specs.DossierSizesByNumber as near
 use Rattle.limits.specs.DossierSizesByNumber.{context_over, least_over, OperationsNear, Clear, Ready, states_over, conditions_over, operation_over, operations_over, PartSeen, OperationSeen, MeasuresSeen}
 use Rattle.limits.proofs.SizePass.{clear-on}
-use Rattle.node_spans.proofs.StandingParts.{part-stands}
 
 -- ---- operations ----
 
@@ -35,11 +33,11 @@ pub record Left (nodes spans : List ℕ) (n N k f : ℕ) (d : Dossier) (ρ : Num
   pub count : k + length left ≡ n
   pub same : lesser f (least_over (operation_contexts d place taken left) ρ N) ≡ operations_over d ρ N
 
-abbrev pub OperationsOn : (nodes spans : List ℕ) (n : ℕ) (a c : List ℕ) (N k f : ℕ) → Type 0
-OperationsOn nodes spans n a c N k f = (d : Dossier) (ρ : Numbering) → Ready nodes spans n a c d ρ → Left nodes spans n N k f d ρ
+abbrev pub OperationsOn : (nodes spans : List ℕ) (n N k f : ℕ) → Type 0
+OperationsOn nodes spans n N k f = (d : Dossier) (ρ : Numbering) → Ready nodes spans n d ρ → Left nodes spans n N k f d ρ
 
-pub operations-start : (nodes spans : List ℕ) (n : ℕ) (a c : List ℕ) (N : ℕ) → OperationsOn nodes spans n a c N 0 0
-operations-start nodes spans n a c N d ρ y =
+pub operations-start : (nodes spans : List ℕ) (n N : ℕ) → OperationsOn nodes spans n N 0 0
+operations-start nodes spans n N d ρ y =
     record {
       left = d.operations;
       place = operations_at d;
@@ -60,8 +58,8 @@ two-contexts : (d : Dossier) (i : ℕ) (xs : List Letters) (o : Operation) (os :
 unfolding operation_contexts least_over context_over operation_over pred_width
 two-contexts d i xs o os ρ N = sym (lesser-assoc _ _ _)
 
-module _ (nodes spans : List ℕ) (n : ℕ) (a c : List ℕ) (k f g h : ℕ) (S U : Bounds) (clear : Clear S) (seen : OperationSeen nodes spans k a c S U g) (e : h ≡ lesser f g) (below : k < n)
-    (d : Dossier) (ρ : Numbering) (y : Ready nodes spans n a c d ρ) where
+module _ (nodes spans : List ℕ) (n k f g h : ℕ) (S U : Bounds) (clear : Clear S) (seen : OperationSeen nodes spans k S U g) (e : h ≡ lesser f g) (below : k < n)
+    (d : Dossier) (ρ : Numbering) (y : Ready nodes spans n d ρ) where
   operation-step : (os : List Operation) (i : ℕ) (xs : List Letters) → OperationsAt nodes spans ρ k i os → OperationsFit d.givens os → OperationsNear os → k + length os ≡ n
       → lesser f (least_over (operation_contexts d i xs os) ρ (length S)) ≡ operations_over d ρ (length S) → Left nodes spans n (length S) (k + 1) h d ρ
   operation-step [] i xs at t u m s = absurd (omega arith)
@@ -83,11 +81,11 @@ module _ (nodes spans : List ℕ) (n : ℕ) (a c : List ℕ) (k f g h : ℕ) (S 
       next : suc k ≡ k + 1
       next = omega arith
 
-pub operations-on : (nodes spans : List ℕ) (n : ℕ) (a c : List ℕ) (k f g h : ℕ) (S U : Bounds) → Clear S → OperationSeen nodes spans k a c S U g → h ≡ lesser f g → k < n
-    → OperationsOn nodes spans n a c (length S) k f → OperationsOn nodes spans n a c (length S) (k + 1) h
-operations-on nodes spans n a c k f g h S U clear seen e below w d ρ y =
+pub operations-on : (nodes spans : List ℕ) (n k f g h : ℕ) (S U : Bounds) → Clear S → OperationSeen nodes spans k S U g → h ≡ lesser f g → k < n
+    → OperationsOn nodes spans n (length S) k f → OperationsOn nodes spans n (length S) (k + 1) h
+operations-on nodes spans n k f g h S U clear seen e below w d ρ y =
     let l = w d ρ y in
-    operation-step nodes spans n a c k f g h S U clear seen e below d ρ y l.left l.place l.taken l.stand l.fit l.near l.count l.same
+    operation-step nodes spans n k f g h S U clear seen e below d ρ y l.left l.place l.taken l.stand l.fit l.near l.count l.same
 
 none_left : (n k f N : ℕ) (d : Dossier) (ρ : Numbering) (os : List Operation) (i : ℕ) (xs : List Letters) → n ≤ k → k + length os ≡ n
     → lesser f (least_over (operation_contexts d i xs os) ρ N) ≡ operations_over d ρ N → f ≡ operations_over d ρ N
@@ -95,22 +93,22 @@ unfolding operation_contexts least_over
 none_left n k f N d ρ [] i xs h m s = sym (lesser-zero f) ∙ s
 none_left n k f N d ρ (o ∷ os) i xs h m s = absurd (omega arith)
 
-pub operations-seen : (nodes spans : List ℕ) (n : ℕ) (a c : List ℕ) (k f : ℕ) (S U : Bounds) → (Clear S → (U ≡ S) × OperationsOn nodes spans n a c (length S) k f) → n ≤ k
-    → PartSeen nodes spans n a c operations_over S U f
-operations-seen nodes spans n a c k f S U w h =
+pub operations-seen : (nodes spans : List ℕ) (n k f : ℕ) (S U : Bounds) → (Clear S → (U ≡ S) × OperationsOn nodes spans n (length S) k f) → n ≤ k
+    → PartSeen nodes spans n operations_over S U f
+operations-seen nodes spans n k f S U w h =
     record {
       kept = λ l. (w l).0;
       right = λ d ρ l y. let z = (w l).1 d ρ y in none_left n k f (length S) d ρ z.left z.place z.taken h z.count z.same;
     }
 
 -- one more, where the table was clear at entry
-pub operations-more : (nodes spans : List ℕ) (n : ℕ) (a c : List ℕ) (k f g h : ℕ) (S T U : Bounds) → OperationSeen nodes spans k a c T U g → h ≡ lesser f g → k < n
-    → (Clear S → (T ≡ S) × OperationsOn nodes spans n a c (length S) k f) → Clear S → (U ≡ S) × OperationsOn nodes spans n a c (length S) (k + 1) h
-operations-more nodes spans n a c k f g h S T U seen e below w l =
+pub operations-more : (nodes spans : List ℕ) (n k f g h : ℕ) (S T U : Bounds) → OperationSeen nodes spans k T U g → h ≡ lesser f g → k < n
+    → (Clear S → (T ≡ S) × OperationsOn nodes spans n (length S) k f) → Clear S → (U ≡ S) × OperationsOn nodes spans n (length S) (k + 1) h
+operations-more nodes spans n k f g h S T U seen e below w l =
     let t = clear-on S T (w l).0 l in (
       seen.kept t ∙ (w l).0,
-      subst (λ (m : ℕ). OperationsOn nodes spans n a c m (k + 1) h) (ap length (w l).0)
-          (operations-on nodes spans n a c k f g h T U t seen e below (subst (λ (m : ℕ). OperationsOn nodes spans n a c m k f) (sym (ap length (w l).0)) (w l).1)),
+      subst (λ (m : ℕ). OperationsOn nodes spans n m (k + 1) h) (ap length (w l).0)
+          (operations-on nodes spans n k f g h T U t seen e below (subst (λ (m : ℕ). OperationsOn nodes spans n m k f) (sym (ap length (w l).0)) (w l).1)),
     )
 
 -- ---- how many operations the spans have room for ----
@@ -147,24 +145,21 @@ all-contexts d ρ N = lesser-assoc _ _ _ ∙ ap (lesser _) (ap (lesser _) (lesse
 clear-again : (N : ℕ) (U : Bounds) → U ≡ replicate N 0 → Clear U × (length U ≡ N)
 clear-again N U e = let l : length U ≡ N = ap length e ∙ length-replicate N 0 in (e ∙ ap (λ (n : ℕ). replicate n 0) (sym l), l)
 
-pub measures-seen : (nodes spans a c : List ℕ) (n N : ℕ) (S₁ S₂ S₃ S₄ : Bounds) (f g h r : ℕ) → S₁ ≡ replicate N 0
-    → PartOf nodes (span spans 0) (span spans 1) a → PartOf nodes (span spans 3) (span spans 4) c
-    → PartSeen nodes spans n a c states_over S₁ S₂ f → PartSeen nodes spans n a c conditions_over S₂ S₃ g → PartSeen nodes spans n a c operations_over S₃ S₄ h → r ≡ lesser f (lesser g h)
+pub measures-seen : (nodes spans : List ℕ) (n N : ℕ) (S₁ S₂ S₃ S₄ : Bounds) (f g h r : ℕ) → S₁ ≡ replicate N 0
+    → PartSeen nodes spans n states_over S₁ S₂ f → PartSeen nodes spans n conditions_over S₂ S₃ g → PartSeen nodes spans n operations_over S₃ S₄ h → r ≡ lesser f (lesser g h)
     → MeasuresSeen nodes spans n N r
-measures-seen nodes spans a c n N S₁ S₂ S₃ S₄ f g h r z w₁ w₂ A B C e d ρ s t u =
+measures-seen nodes spans n N S₁ S₂ S₃ S₄ f g h r z A B C e d ρ s t u =
     let l₁ = (clear-again N S₁ z).0 in
     let m₁ = (clear-again N S₁ z).1 in
     let k₂ : S₂ ≡ S₁ = A.kept l₁ in
     let l₂ = clear-on S₁ S₂ k₂ l₁ in
     let k₃ : S₃ ≡ S₁ = B.kept l₂ ∙ k₂ in
     let l₃ = clear-on S₁ S₃ k₃ l₁ in
-    let y : Ready nodes spans n a c d ρ =
+    let y : Ready nodes spans n d ρ =
     record {
       structured = s;
       fit = t;
       near = u;
-      abstracts = part-stands nodes _ _ a _ w₁ s.abstract.variables;
-      concretes = part-stands nodes _ _ c _ w₂ s.concrete.variables;
     } in
     e
     ∙ ap₂ lesser (A.right d ρ l₁ y ∙ ap (states_over d ρ) m₁)

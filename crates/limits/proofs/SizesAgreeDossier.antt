@@ -14,7 +14,7 @@ use Rattle.form.specs.Headings.{operation_length}
 use Rattle.form.specs.Codes.{Numbering, name_number}
 use Rattle.static_rules.specs.Carriers.{Carrier, Variable, largest, same_name, carrier_of}
 use Rattle.static_rules.specs.Scope as scope
-use Rattle.static_rules.specs.Scope.{Context, variables, contexts, operation_contexts, operation_reach}
+use Rattle.static_rules.specs.Scope.{Context, with_carrier, variables, contexts, operation_contexts, operation_reach}
 use Rattle.static_rules.specs.Limits.{Sizes, context_sizes, size_faults, size_pred}
 use Rattle.declared_names.specs.NamesByNumber.{Typed, variables_of, parameters_of}
 use Rattle.type_rules.specs.TypesByNumber.{least_key}
@@ -32,7 +32,6 @@ use Rattle.limits.specs.DossierSizesByNumber.{shown_sizes, context_over, least_o
 use Rattle.limits.proofs.SizesAgreeScope.{SizesShown, size_found, size_of_name}
 use Rattle.limits.proofs.SizesAgree.{measured_pred}
 use Rattle.lexical.proofs.Zeros.{zero-at}
-use Rattle.limits.proofs.ReachMarks.{carried}
 
 -- ---- the sizes of the variables in reach ----
 
@@ -94,7 +93,7 @@ parameter-letters {P} f (x ∷ xs) h = on (f x) (parameter-letters f xs (tail_in
     on false k = k
 
 -- a type at fault has no carrier, and its variable is dropped
-carried-in : {P : Letters → Type 0} (x : Name) (o : Option Carrier) {vs : List Variable} → P x.letters → NamesIn P vs → NamesIn P (carried x o vs)
+carried-in : {P : Letters → Type 0} (x : Name) (o : Option Carrier) {vs : List Variable} → P x.letters → NamesIn P vs → NamesIn P (with_carrier x o vs)
 carried-in x none p h = h
 carried-in x (some c) p h = one_name p h
 

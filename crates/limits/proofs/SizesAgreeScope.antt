@@ -1,5 +1,5 @@
 -- The sizes of names: the size that a table of sizes shows for each name, and what a binder makes of both.
-use mathlib.Core.Path.{◌≡◌, refl, ap, ap₂, ◌∙◌, sym, subst}
+use mathlib.Core.Path.{◌≡◌, refl, ap, ap₂, ◌∙◌, sym}
 use mathlib.Core.Bool.{Bool, true, false, cond}
 use mathlib.Core.List.{◌∷◌}
 use mathlib.Core.Option.{Option, none, some}
@@ -7,18 +7,18 @@ use Prim.Native.Nat.{ℕ, zero, suc, ◌+◌, ◌-◌, ◌≤◌, max}
 use native.Mathlib.Omega.{arith}
 use lib.IntN.{nat_abs}
 use lib.ListN.{length, set, length-set}
-use lib.Seq.{get_or-set_same, get_or-set_other}
+use lib.Seq.{get_or-set_other}
 use borrow.Author.Tests.{lt-ltb, le-ltb}
-use Rattle.lexical.specs.Lists.{same, find}
-use Rattle.lexical.specs.Symbols.{Name, Ending, no_ending, prime, query, shriek}
-use Rattle.lexical.proofs.WordLaws.{same_refl, same_true, same_turned}
+use Rattle.lexical.specs.Lists.{find}
+use Rattle.lexical.specs.Symbols.{Name, no_ending}
+use Rattle.lexical.proofs.WordLaws.{same_refl}
 use Rattle.form.specs.Tree.{Letters, Domain, given_set, range}
 use Rattle.form.specs.Codes.{Numbering, number_of_name, name_number}
 use Rattle.static_rules.specs.Carriers.{largest, same_name, plain, signed}
 use Rattle.static_rules.specs.Limits.{Sizes, domain_size}
 use Rattle.type_rules.specs.TypesByNumber.{entry}
 use Rattle.names.proofs.ReachTables.{Numbered, DomainIn}
-use Rattle.names.proofs.TypesAgreeScope.{find-here, find-there, apart}
+use Rattle.names.proofs.TypesAgreeScope.{find-here, find-there, each-name, written-entry}
 use Rattle.term_sizes.specs.SizesByNumber.{Bounds, absolute, domain_bound}
 
 -- the size of a name that was looked up; nameSize of static_rules/specs/Limits, which is private there
@@ -37,13 +37,6 @@ pub record SizesShown (ρ : Numbering) (P : Letters → Type 0) (Γ : Sizes) (S 
 -- ---- binders ----
 
 module _ (ρ : Numbering) (P : Letters → Type 0) (ν : Numbered ρ P) (Γ : Sizes) (S : Bounds) (s : SizesShown ρ P Γ S) (x : Letters) (px : P x) (n : ℕ) where
-  other : (y : Name) → (name_number ρ y ≡ number_of_name ρ x no_ending → ⊥) → entry (set S (number_of_name ρ x no_ending) n) (name_number ρ y) ≡ entry S (name_number ρ y)
-  other y h = get_or-set_other S (number_of_name ρ x no_ending) (name_number ρ y) n 0 h
-
-  this : entry (set S (number_of_name ρ x no_ending) n) (number_of_name ρ x no_ending) ≡ n
-  unfolding number_of_name
-  this = get_or-set_same S (number_of_name ρ x no_ending) n 0 (omega (arith, ν.small x px, s.long))
-
   size-here : (y : Name) → same_name (plain x) y ≡ true → size_of_name ((plain x, n) ∷ Γ) y ≡ n
   size-here y e = ap size_found (find-here (λ (z : Name × ℕ). same_name z.0 y) (plain x, n) Γ e)
 
@@ -52,25 +45,15 @@ module _ (ρ : Numbering) (P : Letters → Type 0) (ν : Numbered ρ P) (Γ : Si
 
   other-size : (y : Name) → P y.letters → same_name (plain x) y ≡ false → (name_number ρ y ≡ number_of_name ρ x no_ending → ⊥)
       → entry (set S (number_of_name ρ x no_ending) n) (name_number ρ y) ≡ size_of_name ((plain x, n) ∷ Γ) y
-  other-size y py e h = other y h ∙ s.sizes y py ∙ sym (size-there y e)
+  other-size y py e h = get_or-set_other S _ _ n 0 h ∙ s.sizes y py ∙ sym (size-there y e)
 
   this-size : entry (set S (number_of_name ρ x no_ending) n) (number_of_name ρ x no_ending) ≡ size_of_name ((plain x, n) ∷ Γ) (plain x)
   unfolding same_name
-  this-size = this ∙ sym (size-here (plain x) (same_refl x))
+  this-size = written-entry ρ P ν x px S n s.long ∙ sym (size-here (plain x) (same_refl x))
 
   bound-size : (y : Name) → P y.letters → entry (set S (number_of_name ρ x no_ending) n) (name_number ρ y) ≡ size_of_name ((plain x, n) ∷ Γ) y
-  unfolding number_of_name same_name
-  bound-size y py = on y.ending (same y.letters x) refl
-    where
-      on : (e : Ending) (b : Bool) → same y.letters x ≡ b
-          → entry (set S (number_of_name ρ x no_ending) n) (number_of_name ρ y.letters e) ≡ size_of_name ((plain x, n) ∷ Γ) (record { letters = y.letters; ending = e })
-      on no_ending true q =
-          subst (λ (l : Letters). entry (set S (number_of_name ρ x no_ending) n) (number_of_name ρ l no_ending) ≡ size_of_name ((plain x, n) ∷ Γ) (plain l))
-          (sym (same_true y.letters x q)) this-size
-      on no_ending false q = other-size (plain y.letters) py (same_turned x y.letters q) (λ e. apart ρ P ν x y.letters px py q (omega arith))
-      on prime b q = other-size (record { letters = y.letters; ending = prime }) py refl (omega arith)
-      on query b q = other-size (record { letters = y.letters; ending = query }) py refl (omega arith)
-      on shriek b q = other-size (record { letters = y.letters; ending = shriek }) py refl (omega arith)
+  bound-size =
+      each-name ρ P ν x px (λ (y : Name). entry (set S (number_of_name ρ x no_ending) n) (name_number ρ y) ≡ size_of_name ((plain x, n) ∷ Γ) y) this-size other-size
 
   -- the names in reach inside a binder are shown by the table with the bound name's size in it
   pub bound-shown : SizesShown ρ P ((plain x, n) ∷ Γ) (set S (number_of_name ρ x no_ending) n)

@@ -3,7 +3,7 @@
 use Rattle.std.specs.Prelude.{◌≡◌, Bool, true, cond, List, [], ◌∷◌, ◌++◌, map, ℕ, zero, suc, ◌+◌, ◌/◌, ◌≤◌, max, eqb, length, take, drop, get_or, set, replicate}
 use Rattle.form.specs.Tree.{TypeForm, given_type, power_type, range_type, arrow_type, Declaration, declarations, Parameter, Pred, Operation, Dossier}
 use Rattle.form.specs.Headings.{abstract_at, concrete_at, ainit_at, cinit_at, retrieve_at, operations_at}
-use Rattle.form.specs.Codes.{Numbering, name_number, abstractly_at, pred_width, pred_codes, declaration_codes}
+use Rattle.form.specs.Codes.{Numbering, name_number, abstractly_at, pred_width, pred_codes}
 use Rattle.static_rules.specs.Carriers.{Variable, largest}
 use Rattle.static_rules.specs.Scope.{Context, contexts, operation_contexts, unprimed, operation_reach, concrete_taken}
 use Rattle.type_rules.specs.TypesByNumber.{lesser}
@@ -77,13 +77,11 @@ pub record ContextSeen (nodes first second : List ℕ) (shift : ℕ) (third : Li
   pub right : (p : Pred) (i : ℕ) (ρ : Numbering) (base : List ℕ) → end ≤ length nodes → take end nodes ≡ base ++ pred_codes p i ρ
       → r ≡ pred_over p (marked true first second shift third S) ρ i
 
--- the nodes and spans are those of a dossier without faults in its types, a and c those of the variables of its states
-pub record Ready (nodes spans : List ℕ) (n : ℕ) (a c : List ℕ) (d : Dossier) (ρ : Numbering) : Type 0 where
+-- the nodes and spans are those of a dossier without faults in its types
+pub record Ready (nodes spans : List ℕ) (n : ℕ) (d : Dossier) (ρ : Numbering) : Type 0 where
   pub structured : Structured nodes spans n d ρ
   pub fit : DeclaredFit d
   pub near : DeclaredNear d
-  pub abstracts : a ≡ declaration_codes (suc (abstract_at d)) (declarations d.abstract) ρ
-  pub concretes : c ≡ declaration_codes (suc (concrete_at d)) (declarations d.concrete) ρ
 
 abbrev pub over_of : Pred → (at : ℕ) → List Variable → Numbering → (n : ℕ) → ℕ
 over_of p i vs ρ n = pred_over p (shown_sizes vs ρ n) ρ i
@@ -110,14 +108,14 @@ abbrev pub operations_over : Dossier → Numbering → (n : ℕ) → ℕ
 operations_over d ρ n = least_over (operation_contexts d (operations_at d) (concrete_taken d) d.operations) ρ n
 
 -- what is at hand of a part, with its numbers f: the table is clear again
-pub record PartSeen (nodes spans : List ℕ) (m : ℕ) (a c : List ℕ) (f : Dossier → Numbering → (n : ℕ) → ℕ) (S U : Bounds) (r : ℕ) : Type 0 where
+pub record PartSeen (nodes spans : List ℕ) (m : ℕ) (f : Dossier → Numbering → (n : ℕ) → ℕ) (S U : Bounds) (r : ℕ) : Type 0 where
   pub kept : Clear S → U ≡ S
-  pub right : (d : Dossier) (ρ : Numbering) → Clear S → Ready nodes spans m a c d ρ → r ≡ f d ρ (length S)
+  pub right : (d : Dossier) (ρ : Numbering) → Clear S → Ready nodes spans m d ρ → r ≡ f d ρ (length S)
 
 -- the operation k
-pub record OperationSeen (nodes spans : List ℕ) (k : ℕ) (a c : List ℕ) (S U : Bounds) (r : ℕ) : Type 0 where
+pub record OperationSeen (nodes spans : List ℕ) (k : ℕ) (S U : Bounds) (r : ℕ) : Type 0 where
   pub kept : Clear S → U ≡ S
-  pub right : (m : ℕ) (d : Dossier) (ρ : Numbering) (i : ℕ) (o : Operation) → Clear S → Ready nodes spans m a c d ρ → OperationAt nodes spans k i o ρ
+  pub right : (m : ℕ) (d : Dossier) (ρ : Numbering) (i : ℕ) (o : Operation) → Clear S → Ready nodes spans m d ρ → OperationAt nodes spans k i o ρ
       → TypesFit d.givens (map (λ (x : Parameter). x.declaration) o.parameters) → TypesNear (map (λ (x : Parameter). x.declaration) o.parameters)
       → r ≡ operation_over d i o ρ (length S)
 

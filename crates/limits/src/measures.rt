@@ -6,7 +6,7 @@ ghost use Rattle.limits.specs.DossierSizesByNumber.{entry_size, marks, marked, C
 use form::name_endings::{PLAIN, PRIMED};
 use form::{node, shapes};
 use names::NAMES;
-use node_spans::{Parts, States, span};
+use node_spans::{Parts, span};
 use refusals::Fault;
 use term_sizes::sizes::{absolute_of, pred};
 use type_rules::kinds::{lesser_of, put};
@@ -77,9 +77,10 @@ fn context(nodes: &[u16], r: &Reach<'_>, end: usize, bounds: &mut [u16]) -> Opti
 }
 
 // The predicates of the two states.
-fn states(p: &Parts<'_>, s: &States<'_>, bounds: &mut [u16]) -> Option<Fault>
-    ensures { (m : ℕ) → PartSeen p.now.nodes.now p.now.spans.now m s.now.abstracts.now s.now.concretes.now states_over bounds.old bounds.new (fault_key result) }
+fn states(p: &Parts<'_>, bounds: &mut [u16]) -> Option<Fault>
+    ensures { (m : ℕ) → PartSeen p.now.nodes.now p.now.spans.now m states_over bounds.old bounds.new (fault_key result) }
 {
+    let s = p.states();
     let a = Reach::of(s.abstracts);
     let c = Reach::of(s.concretes);
     let f = context(p.nodes, &a, p.span(span::ABSTRACT_END), bounds);
@@ -88,9 +89,10 @@ fn states(p: &Parts<'_>, s: &States<'_>, bounds: &mut [u16]) -> Option<Fault>
 }
 
 // ainit, cinit and retrieve.
-fn conditions(p: &Parts<'_>, s: &States<'_>, bounds: &mut [u16]) -> Option<Fault>
-    ensures { (m : ℕ) → PartSeen p.now.nodes.now p.now.spans.now m s.now.abstracts.now s.now.concretes.now conditions_over bounds.old bounds.new (fault_key result) }
+fn conditions(p: &Parts<'_>, bounds: &mut [u16]) -> Option<Fault>
+    ensures { (m : ℕ) → PartSeen p.now.nodes.now p.now.spans.now m conditions_over bounds.old bounds.new (fault_key result) }
 {
+    let s = p.states();
     let a = Reach::of(s.abstracts);
     let c = Reach::of(s.concretes);
     let both = Reach {
@@ -104,10 +106,11 @@ fn conditions(p: &Parts<'_>, s: &States<'_>, bounds: &mut [u16]) -> Option<Fault
 }
 
 // The two predicates of the operation k: the variables of a state, the same primed, and the parameters.
-fn operation(p: &Parts<'_>, s: &States<'_>, k: usize, bounds: &mut [u16]) -> Option<Fault>
+fn operation(p: &Parts<'_>, k: usize, bounds: &mut [u16]) -> Option<Fault>
     requires { k ≤ 18 }
-    ensures { OperationSeen p.now.nodes.now p.now.spans.now k s.now.abstracts.now s.now.concretes.now bounds.old bounds.new (fault_key result) }
+    ensures { OperationSeen p.now.nodes.now p.now.spans.now k bounds.old bounds.new (fault_key result) }
 {
+    let s = p.states();
     let o = p.operation(k);
     let a = Reach {
         first: s.abstracts,
@@ -126,13 +129,13 @@ fn operation(p: &Parts<'_>, s: &States<'_>, k: usize, bounds: &mut [u16]) -> Opt
 }
 
 // The operations.
-fn operations(p: &Parts<'_>, s: &States<'_>, bounds: &mut [u16]) -> Option<Fault>
+fn operations(p: &Parts<'_>, bounds: &mut [u16]) -> Option<Fault>
     requires { p.now.operations ≤ 18 }
-    ensures { PartSeen p.now.nodes.now p.now.spans.now p.now.operations s.now.abstracts.now s.now.concretes.now operations_over bounds.old bounds.new (fault_key result) }
+    ensures { PartSeen p.now.nodes.now p.now.spans.now p.now.operations operations_over bounds.old bounds.new (fault_key result) }
 {
     let mut f = None;
     for k in 0..p.operations {
-        let g = operation(p, s, k, bounds);
+        let g = operation(p, k, bounds);
         f = lesser_of(f, g);
     }
     f
@@ -146,9 +149,8 @@ pub fn measures(p: &Parts<'_>) -> Option<Fault>
         return None;
     }
     let mut bounds = [0u16; NAMES];
-    let s = p.states();
-    let f = states(p, &s, &mut bounds);
-    let g = conditions(p, &s, &mut bounds);
-    let h = operations(p, &s, &mut bounds);
+    let f = states(p, &mut bounds);
+    let g = conditions(p, &mut bounds);
+    let h = operations(p, &mut bounds);
     lesser_of(f, lesser_of(g, h))
 }

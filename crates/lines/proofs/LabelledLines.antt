@@ -14,7 +14,7 @@ use Rattle.lexical.specs.Lists.{bytes}
 use Rattle.lexical.specs.Symbols.{Name, Ending, no_ending, prime}
 use Rattle.form.specs.Tree.{Letters, Arrow, relation, partial, total, Given, elements, Declaration, declarations, State, Dossier}
 use Rattle.static_rules.specs.Carriers.{Carrier, elements_of, numbers, subsets_of, pairs_in, Variable, size_of, count_of, arrow_count, carrier_of}
-use Rattle.static_rules.specs.Scope.{variables, unprimed, primed}
+use Rattle.static_rules.specs.Scope.{with_carrier, variables, unprimed, primed}
 use Rattle.static_rules.specs.Limits.{binding_count}
 use Rattle.sets.specs.Sets.{has, members_from, members, width}
 use Rattle.sets.proofs.MaskBits.{member-below}
@@ -157,12 +157,8 @@ module _ (text labels : List ℕ) (gs : List Given) (spelt : ElementsAt text lab
 
 -- ---- declared variables with another ending
 
-abbrev before : Name → Option Carrier → List Variable → List Variable
-before x none vs = vs
-before x (some c) vs = record { called = x; carrier = c } ∷ vs
-
 ended-before : (e : Ending) (x y : Name) (c : Option Carrier) (vs ws : List Variable) → record { letters = x.letters; ending = e } ≡ y → map (ended e) vs ≡ ws
-    → map (ended e) (before x c vs) ≡ before y c ws
+    → map (ended e) (with_carrier x c vs) ≡ with_carrier y c ws
 ended-before e x y none vs ws p q = q
 ended-before e x y (some c) vs ws p q = ap₂ (λ (n : Name) (l : List Variable). record { called = n; carrier = c } ∷ l) p q
 

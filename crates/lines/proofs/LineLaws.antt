@@ -15,6 +15,8 @@ use mir.Facts.{to_z-of_z}
 use Rattle.lexical.specs.Lists.{bytes}
 use Rattle.lexical.specs.Symbols.{Ending, no_ending, prime, query, shriek}
 use Rattle.std.specs.Prelude.{Option, Some, None}
+use Rattle.std.specs.Int.NonZero.{non_zero_u16_get}
+use Rattle.std.specs.declared.num.NonZeroU16.{NonZeroU16}
 use Rattle.sets.specs.Sets.{has, members}
 use Rattle.meaning.specs.Values.{natural}
 use Rattle.obligations.specs.Report.{ending_bytes, signed_decimal, braced}
@@ -23,7 +25,7 @@ use Rattle.pieces.specs.PiecePromises.{Adds, letters_at}
 use Rattle.pieces.specs.declared.Writer.{Writer}
 use Rattle.pieces.proofs.WrittenPieces.{piece_is, nothing_added, both-added, letters-length}
 use Rattle.pieces.proofs.Signs.{signed-length}
-use Rattle.lines.specs.LinesByNumber.{element_piece, pair_piece, member_piece, value_piece, ending_byte, byte_piece, ending_piece, line_piece, group_piece}
+use Rattle.lines.specs.LinesByNumber.{size_of, element_piece, pair_piece, member_piece, value_piece, ending_byte, byte_piece, ending_piece, line_piece, group_piece}
 use Rattle.lines.specs.MembersByNumber.{members_piece}
 use Rattle.lines.proofs.MemberLaws.{braced-are, members-here, members-there, members-none, braced-length, members-low}
 
@@ -154,13 +156,17 @@ module _ (text labels : List ℕ) where
       both-added (piece_is (ap (λ (i : ℕ). element_piece text labels (n / 8) (k / i)) e) u)
       (both-added v (piece_is (ap (λ (i : ℕ). element_piece text labels (n % 8) (k % i)) e) w))
 
-  pub single-written : (n m k : ℕ) {v w : Writer} → m ≡ 0 → Adds (element_piece text labels n k) v w → Adds (member_piece text labels n m k) v w
-  unfolding member_piece
-  single-written n m k e v = when_true _ _ (eq-eqb m 0 e) v
+  module _ (n k : ℕ) {t : Option NonZeroU16} {v w : Writer} where
+    pub single-written : t ≡ None → Adds (element_piece text labels n k) v w → Adds (member_piece text labels n (size_of t) k) v w
+    unfolding member_piece
+    single-written e v = when_true _ _ (eq-eqb (size_of t) 0 (ap size_of e)) v
 
-  pub double-written : (n m k : ℕ) {v w : Writer} → (m ≡ 0 → ⊥) → Adds (pair_piece text labels n m k) v w → Adds (member_piece text labels n m k) v w
-  unfolding member_piece
-  double-written n m k e v = when_false _ _ (ne_eqb m 0 e) v
+    pub double-written : {m : NonZeroU16} → t ≡ Some m → Adds (pair_piece text labels n (non_zero_u16_get m) k) v w → Adds (member_piece text labels n (size_of t) k) v w
+    unfolding member_piece
+    double-written {m} e v =
+        let some : size_of t ≡ non_zero_u16_get m = ap size_of e in
+        let p : 0 < non_zero_u16_get m = m.ok in
+        when_false _ _ (ne_eqb (size_of t) 0 (omega arith)) (piece_is (ap (λ (i : ℕ). pair_piece text labels n i k) (sym some)) v)
 
   -- of a subset the number of elements of a second set is not used
   sets-value : (s n m : ℕ) (x : ℤ) → (s ≡ 1 → ⊥) → (s ≡ 2 → ⊥)

@@ -1,5 +1,7 @@
 -- The lines of a witness by labels and values in slots. That they are the lines of document 01 is proofs/LabelledLines. Nothing here need be believed.
 use Rattle.std.specs.Prelude.{List, [], ◌∷◌, ◌++◌, map, cond, ℕ, zero, suc, ◌+◌, ◌*◌, ◌/◌, ◌%◌, eqb, ℤ, pos, get_or, Option, Some, None}
+use Rattle.std.specs.Int.NonZero.{non_zero_u16_get}
+use Rattle.std.specs.declared.num.NonZeroU16.{NonZeroU16}
 use Rattle.lexical.specs.Lists.{bytes}
 use Rattle.lexical.specs.Symbols.{Ending, no_ending, prime, query, shriek}
 use Rattle.sets.specs.Sets.{members}
@@ -14,6 +16,11 @@ ending_byte no_ending = 0
 ending_byte prime = 39
 ending_byte query = 63
 ending_byte shriek = 33
+
+-- how many elements the second of two given sets has, 0 of one
+abbrev pub size_of : Option NonZeroU16 → ℕ
+size_of None = 0
+size_of (Some m) = non_zero_u16_get m
 
 -- one byte or none
 abbrev pub byte_piece : Option ℕ → List ℕ

@@ -5,6 +5,7 @@
 #![tactic(auto)]
 
 ghost use Rattle.std.specs.Prelude.{◌≡◌, [], map, cond, eqb, ◌+◌, ◌*◌, ◌%◌, ◌^◌, ◌≤◌, ◌<◌, length};
+ghost use Rattle.std.specs.Int.NonZero.{non_zero_u16_get};
 ghost use Rattle.lexical.specs.SymbolPromises.{ending_is};
 ghost use Rattle.sets.specs.Sets.{members};
 ghost use Rattle.meaning.specs.Values.{natural};
@@ -12,7 +13,7 @@ ghost use Rattle.obligations.specs.Report.{braced, ending_bytes};
 ghost use Rattle.labels.specs.Labels.{label_of};
 ghost use Rattle.pieces.specs.PiecePromises.{Adds};
 ghost use Rattle.lines.specs.GroupPlaces.{first_of, slot_of, ending_of};
-ghost use Rattle.lines.specs.LinesByNumber.{element_piece, pair_piece, member_piece, value_piece, ending_byte, byte_piece, line_piece, group_piece};
+ghost use Rattle.lines.specs.LinesByNumber.{size_of, element_piece, pair_piece, member_piece, value_piece, ending_byte, byte_piece, line_piece, group_piece};
 ghost use Rattle.lines.specs.MembersByNumber.{members_piece};
 
 use form::shapes::{POWER, RANGE, SET};
@@ -22,6 +23,7 @@ use pieces::Writer;
 use search_groups::groups::{INPUTS_ROW, STATE_ROW, STATES_ROWS};
 use sets::has;
 pub use slot_carriers::SLOTS;
+use std::num::NonZeroU16;
 use table_nodes::slots;
 
 // The greatest length of a line: a name and its ending, " = ", a value of at most 16 pairs, a newline.
@@ -53,12 +55,11 @@ struct Shape {
     size: u16,
 }
 
-// A set: the given sets of its members, how many elements the second of two has (0 for one), its bits.
-// Form 1: the size is a number of the labels; with an Option a pair would still have to rule out `Some(0)`, since its places are quotients by the size.
+// A set: the given sets of its members, of pairs how many elements the second given set has, its bits.
 #[derive(Clone, Copy)]
 struct Set {
     sides: u16,
-    size: u16,
+    size: Option<NonZeroU16>,
     bits: u16,
 }
 
@@ -69,6 +70,13 @@ pub struct Group {
     pub count: usize,
     pub slot: usize,
     pub ending: Ending,
+}
+
+// What the lines of a witness show: the values in their slots, and the names.
+#[derive(Clone, Copy)]
+pub struct Shown<'a> {
+    pub names: Names<'a>,
+    pub slots: &'a [i64; SLOTS],
 }
 
 // The groups: the states, the inputs, the outputs, the states after.
@@ -151,34 +159,34 @@ fn put_element(names: &Names<'_>, g: u16, k: usize, w: &mut Writer<'_>)
     w.put_letters(names.text, usize::from(names.label(first + k)));
 }
 
-// Pair k of two given sets.
+// Pair k of two given sets, the second of which has m elements.
 // Form 5: that k is one of 16 bits is asked of a pair and of a member. A type for it is a struct with a ghost field, four lines for the two clauses, and what
 // is divided here, and asked of the bits there, would be its field instead of k.
-fn put_pair(names: &Names<'_>, t: Set, k: usize, w: &mut Writer<'_>)
-    requires { (1 ≤ t.size) × (k < 16) × (w.old.at + 37 ≤ length w.old.out.now) }
-    ensures { Adds (pair_piece names.now.text.now names.now.labels.now t.sides t.size k) w.old w.new }
+fn put_pair(names: &Names<'_>, sides: u16, m: NonZeroU16, k: usize, w: &mut Writer<'_>)
+    requires { (k < 16) × (w.old.at + 37 ≤ length w.old.out.now) }
+    ensures { Adds (pair_piece names.now.text.now names.now.labels.now sides (non_zero_u16_get m) k) w.old w.new }
 {
-    let m = usize::from(t.size);
-    put_element(names, t.sides / ELEMENTS, k / m, w);
+    let m = usize::from(m.get());
+    put_element(names, sides / ELEMENTS, k / m, w);
     w.put_all(b" |-> ");
-    put_element(names, t.sides % ELEMENTS, k % m, w);
+    put_element(names, sides % ELEMENTS, k % m, w);
 }
 
 // A member of a set: an element or a pair.
 fn put_member(names: &Names<'_>, t: Set, k: usize, w: &mut Writer<'_>)
     requires { (k < 16) × (w.old.at + 37 ≤ length w.old.out.now) }
-    ensures { Adds (member_piece names.now.text.now names.now.labels.now t.sides t.size k) w.old w.new }
+    ensures { Adds (member_piece names.now.text.now names.now.labels.now t.sides (size_of t.size) k) w.old w.new }
 {
-    if t.size == 0 {
-        return put_element(names, t.sides, k, w);
+    match t.size {
+        None => put_element(names, t.sides, k, w),
+        Some(m) => put_pair(names, t.sides, m, k, w),
     }
-    put_pair(names, t, k, w);
 }
 
 // The members of a set, lowest bit first, a comma between any two.
 fn put_members(names: &Names<'_>, t: Set, w: &mut Writer<'_>)
     requires { w.old.at + 622 ≤ length w.old.out.now }
-    ensures { Adds (members_piece (member_piece names.now.text.now names.now.labels.now t.sides t.size) t.bits [] 0 16) w.old w.new }
+    ensures { Adds (members_piece (member_piece names.now.text.now names.now.labels.now t.sides (size_of t.size)) t.bits [] 0 16) w.old w.new }
 {
     let mut before: &[u8] = b"";
     for k in 0..BITS {
@@ -193,7 +201,7 @@ fn put_members(names: &Names<'_>, t: Set, w: &mut Writer<'_>)
 // A set in braces.
 fn put_set(names: &Names<'_>, t: Set, w: &mut Writer<'_>)
     requires { w.old.at + 624 ≤ length w.old.out.now }
-    ensures { Adds (braced (map (member_piece names.now.text.now names.now.labels.now t.sides t.size) (members t.bits))) w.old w.new }
+    ensures { Adds (braced (map (member_piece names.now.text.now names.now.labels.now t.sides (size_of t.size)) (members t.bits))) w.old w.new }
 {
     w.put(b'{');
     put_members(names, t, w);
@@ -202,13 +210,13 @@ fn put_set(names: &Names<'_>, t: Set, w: &mut Writer<'_>)
 
 // The set that a value of a type of sets is.
 fn set_of(t: Shape, x: i64) -> Set
-    ensures { (result.sides ≡ t.sides) × (result.size ≡ cond (eqb t.shape 3) 0 t.size) × (result.bits ≡ natural x % 65536) }
+    ensures { (result.sides ≡ t.sides) × (size_of result.size ≡ cond (eqb t.shape 3) 0 t.size) × (result.bits ≡ natural x % 65536) }
 {
     Set {
         sides: t.sides,
         size: match t.shape {
-            POWER => 0,
-            _ => t.size,
+            POWER => None,
+            _ => NonZeroU16::new(t.size),
         },
         bits: (natural_of(x) % SETS) as u16,
     }
@@ -265,12 +273,13 @@ fn put_line(names: &Names<'_>, i: usize, ending: Ending, x: i64, w: &mut Writer<
 }
 
 // The lines of a group.
-pub fn put_group(names: &Names<'_>, slots: &[i64; SLOTS], g: Group, w: &mut Writer<'_>)
+// Form 3: over the slots by `iter().enumerate()` k would be there all the same; by `(g.first..).zip(&s.slots[g.slot..g.slot + g.count])` it would not, but the slice's two ends would.
+pub fn put_group(s: &Shown<'_>, g: Group, w: &mut Writer<'_>)
     requires { (g.first + g.count ≤ 160) × (g.slot + g.count ≤ 64) × (w.old.at + 645 * g.count ≤ length w.old.out.now) }
-    ensures lines { Adds (group_piece names.now.text.now names.now.labels.now g.first g.count g.slot (ending_byte (ending_is g.ending)) slots.now) w.old w.new }
+    ensures lines { Adds (group_piece s.now.names.text.now s.now.names.labels.now g.first g.count g.slot (ending_byte (ending_is g.ending)) s.now.slots.now) w.old w.new }
     ensures short { w.new.at ≤ w.old.at + 645 * g.count }
 {
     for k in 0..g.count {
-        put_line(names, g.first + k, g.ending, slots[g.slot + k], w);
+        put_line(&s.names, g.first + k, g.ending, s.slots[g.slot + k], w);
     }
 }

@@ -171,7 +171,8 @@ fn bound(
 }
 
 // The predicate whose nodes end at `end`: where they begin.
-// Form 1: 0 where no nodes of a tree end, as `nothing` has it for terms. With an Option, `bound` would take it apart only behind the calls that restore names and places.
+// Form 1: 0 where no nodes of a tree end, as `nothing` has it for terms. With an Option `constant`, `sides`, `within`, `related` and `quantified` would put their place into `Some`,
+// which of the last four may be that 0, and `bound` would turn `None` back into it for `Made`; `connected` alone would ask (`q?`), where the walk now goes on from place 0 and ends.
 #[cycle(walk)]
 pub fn pred(
     r: &Reading<'_>,

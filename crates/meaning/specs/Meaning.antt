@@ -25,7 +25,7 @@ abbrev pub element_value : Option Given → Name → Value
 element_value none x = val.element 0 0
 element_value (some g) x = val.element (size_of g) (place_in (elements g) x)
 
-abbrev or_element : Option (Name × Value) → Value → Value
+abbrev pub or_element : Option (Name × Value) → Value → Value
 or_element none v = v
 or_element (some b) v = b.1
 

@@ -1,12 +1,12 @@
 -- Nodes of terms and of the items of braces, by their shapes: where the parts are free of a slot, so is the node. Assumes nothing.
 use mathlib.Core.Path.{◌≡◌, sym, ap, subst, ◌∙◌}
-use mathlib.Core.Bool.{Bool, true, false, not, ◌&&◌, cond}
+use mathlib.Core.Bool.{Bool, true, false, not, ◌&&◌, cond, false≢true}
 use mathlib.Core.Logic.{inl, inr}
 use mathlib.Core.List.{List}
 use Prim.Native.Nat.{ℕ, zero, suc, ◌-◌, ◌<◌, ◌≤◌}
 use native.Mathlib.Omega.{arith}
 use native.Mathlib.Decide.{ℕ_discrete}
-use lib.Dec.{eqb, T}
+use lib.Dec.{eqb}
 use borrow.Author.Tests.{eq-eqb}
 use lib.ListN.{get_or, length, set, length-set}
 use lib.Seq.{get_or-set_same, get_or-set_other, ext_get_or}
@@ -17,10 +17,6 @@ use Rattle.std.specs.Ordering.{is_le, is_lt, nat_cmp}
 use Rattle.lexical.proofs.RangeTests.{ranged, inside_range}
 use Rattle.evaluator.specs.EvaluationEvaluationByNumber.{Inside, Bound, TermNode, ItemsNode}
 use Rattle.mentions.specs.MentionPromises.{Agree, Frames, TermFree, ItemsFree, TruthFree, Earlier, TermSays}
-
--- an answer no says nothing
-pub refused : {A : Type 0} → false ≡ true → A
-refused e = absurd (subst T (sym e) tt)
 
 -- what the `contains` of a range with its end answers: yes says that a node can end here
 pub between : (x low high : ℕ) (past : Bool) → low ≡ 4 → high ≡ 16384 → past ≡ false
@@ -103,7 +99,7 @@ module _ {t : List ℕ} {e s : ℕ} where
 
   pub slot-says : {i n : ℕ} → shape_at t e ≡ 2 → i ≡ e - 3 → n ≡ get_or t i 0 → TermSays t e s (not (eqb n s))
   slot-says {i} {n} k at is =
-      record { means = λ y. slot-free k (λ z. refused (sym (ap not (eq-eqb n s (is ∙ ap (λ (j : ℕ). get_or t j 0) at ∙ z))) ∙ y)) }
+      record { means = λ y. slot-free k (λ z. absurd (false≢true (sym (ap not (eq-eqb n s (is ∙ ap (λ (j : ℕ). get_or t j 0) at ∙ z))) ∙ y))) }
 
   prefix-free : shape_at t e ≡ 3 → TermFree t (e - 4) s → TermFree t e s
   unfolding TermNode

@@ -10,7 +10,7 @@ use lib.ListN.{length, get_or, set, replicate}
 use lib.Seq.{get_or-set_same, get_or-set_other}
 use Rattle.lexical.specs.SymbolPromises.{walk_from, IsFirst, Reached, reached, deep, Tree}
 use Rattle.lexical.specs.declared.Stop.{Stop}
-use Rattle.name_numbers.specs.RecentNames.{Recent, Earlier, Recalls}
+use Rattle.name_numbers.specs.RecentNames.{Recent, Earlier, Recalls, NumberOf}
 use Rattle.std.specs.Prelude.{Option, Some, None}
 use Rattle.std.specs.Bool.{then_some}
 use Rattle.std.proofs.lemmas.Option.{none-some}
@@ -64,23 +64,25 @@ module _ {letters : List ℕ} where
   pub recent-on : {recent : List (Option ℕ)} {i : ℕ} → Recent letters recent i → Recent letters recent (i + 1)
   recent-on h = record { before = λ k v e. let b = h.before k v e in omega arith; firsts = h.firsts }
 
-  pub recent-more : {recent : List (Option ℕ)} {i k r : ℕ} → Recent letters recent i → IsFirst letters i r → k < length recent → Recent letters (set recent k (Some r)) (i + 1)
-  recent-more {recent} {i} {k} {r} h f l = record { before = before; firsts = firsts }
+  number-first : {i v : ℕ} {r : Option ℕ} → r ≡ Some v → NumberOf letters i r → IsFirst letters i v
+  number-first {i} q h = let f = subst (λ (x : Option ℕ). NumberOf letters i x) q h in f.1
+
+  pub recent-more : {recent : List (Option ℕ)} {i k : ℕ} (r : Option ℕ) → Recent letters recent i → NumberOf letters i r → k < length recent → Recent letters (set recent k r) (i + 1)
+  recent-more {recent} {i} {k} r h f l = record { before = before; firsts = firsts }
     where
-      pick : (s : ℕ) (P : Option ℕ → Type 0) → P (Some r) → P (get_or recent s none) → P (get_or (set recent k (Some r)) s none)
+      pick : (s : ℕ) (P : Option ℕ → Type 0) → P r → P (get_or recent s none) → P (get_or (set recent k r) s none)
       pick s P a b = on (eqb s k) refl
         where
-          on : (x : Bool) → eqb s k ≡ x → P (get_or (set recent k (Some r)) s none)
-          on true e = subst P (sym (ap (λ (y : ℕ). get_or (set recent k (Some r)) y none) (eqb-true s k e) ∙ get_or-set_same recent k (Some r) none l)) a
-          on false e = subst P (sym (get_or-set_other recent k s (Some r) none (eqb-false s k e))) b
+          on : (x : Bool) → eqb s k ≡ x → P (get_or (set recent k r) s none)
+          on true e = subst P (sym (ap (λ (y : ℕ). get_or (set recent k r) y none) (eqb-true s k e) ∙ get_or-set_same recent k r none l)) a
+          on false e = subst P (sym (get_or-set_other recent k s r none (eqb-false s k e))) b
 
-      before : (s v : ℕ) → get_or (set recent k (Some r)) s none ≡ Some v → v < i + 1
+      before : (s v : ℕ) → get_or (set recent k r) s none ≡ Some v → v < i + 1
       before s v =
-          let u = f.up_to in
-          pick s (λ (x : Option ℕ). x ≡ Some v → v < i + 1) (λ e. let d : r ≡ v = cc in omega arith) (λ e. let b = h.before s v e in omega arith)
+          pick s (λ (x : Option ℕ). x ≡ Some v → v < i + 1) (λ e. let u = (number-first e f).up_to in omega arith) (λ e. let b = h.before s v e in omega arith)
 
-      firsts : (s v : ℕ) → get_or (set recent k (Some r)) s none ≡ Some v → IsFirst letters v v
+      firsts : (s v : ℕ) → get_or (set recent k r) s none ≡ Some v → IsFirst letters v v
       firsts s v =
           pick s (λ (x : Option ℕ). x ≡ Some v → IsFirst letters v v)
-          (λ e. let d : r ≡ v = cc in subst (λ (x : ℕ). IsFirst letters x x) d (first-self f))
+          (λ e. first-self (number-first e f))
           (h.firsts s v)

@@ -12,6 +12,7 @@ use lib.Dec.{leb, ltb}
 use borrow.Author.Tests.{leb-true, le-ltb, ne_eqb}
 use lib.ListN.{length, take, drop, get_or, set, length-append, length-map, length-drop, drop_of_length-le}
 use lib.Seq.{drop-cons, get_or-drop, drop-drop, take_all, take_at, set_at}
+use Rattle.std.specs.Simd.Lanes.{Each1}
 use Rattle.lexical.specs.Lists.{bytes, begins}
 use Rattle.lexical.specs.Kinds.{Kind, marks, words}
 use Rattle.refusals.specs.Refusals.{Fault, fault, before, lesser, least, number_of, many_symbols}
@@ -60,26 +61,25 @@ small-number m r p q = on (is_number r)
     on false = tt
 
 abbrev EachShort : List (String × Kind) → Type 0
-EachShort [] = Unit {0}
-EachShort (e ∷ t) = (leb 1 (length (bytes e.0)) ≡ true) × (leb (length (bytes e.0)) 17 ≡ true) × EachShort t
+EachShort t = Each1 (λ (e : String × Kind). (leb 1 (length (bytes e.0)) ≡ true) × (leb (length (bytes e.0)) 17 ≡ true)) t
 
 marks-short : EachShort marks
 unfolding bytes
-marks-short = (refl, refl, (refl, refl, (refl, refl, (refl, refl, (refl, refl, (refl, refl, (refl, refl, (refl, refl, (refl, refl, (refl, refl, (refl, refl, (refl, refl, (refl, refl, (refl, refl, (refl, refl, (refl, refl, (refl, refl, (refl, refl, (refl, refl, (refl, refl, (refl, refl, (refl, refl, (refl, refl, (refl, refl, (refl, refl, (refl, refl, tt))))))))))))))))))))))))))
+marks-short = ((refl, refl), ((refl, refl), ((refl, refl), ((refl, refl), ((refl, refl), ((refl, refl), ((refl, refl), ((refl, refl), ((refl, refl), ((refl, refl), ((refl, refl), ((refl, refl), ((refl, refl), ((refl, refl), ((refl, refl), ((refl, refl), ((refl, refl), ((refl, refl), ((refl, refl), ((refl, refl), ((refl, refl), ((refl, refl), ((refl, refl), ((refl, refl), ((refl, refl), ((refl, refl), tt))))))))))))))))))))))))))
 
 small-mark : (m : ℕ) (t : List (String × Kind)) (w : List ℕ) → EachShort t → Small m (longest t w)
 unfolding longest
 small-mark m [] w h = tt
-small-mark m (e ∷ t) w h = on (begins (bytes e.0) w) (longest t w) (small-mark m t w h.2)
+small-mark m (e ∷ t) w h = on (begins (bytes e.0) w) (longest t w) (small-mark m t w h.1)
   where
     n : ℕ
     n = length (bytes e.0)
 
     one : 1 ≤ n
-    one = leb-true 1 n h.0
+    one = leb-true 1 n h.0.0
 
     few : n ≤ 17
-    few = leb-true n 17 h.1
+    few = leb-true n 17 h.0.1
 
     longer-small : (f : Found) → Small m f → Small m (longer f e.1 n)
     longer-small gap i = (one, omega (arith, few))

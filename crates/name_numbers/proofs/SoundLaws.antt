@@ -10,6 +10,7 @@ use lib.Dec.{leb, ltb}
 use borrow.Author.Tests.{leb-true, ltb-true, ltb-false}
 use lib.ListN.{length, drop, get_or, drop_of_length-le}
 use lib.Seq.{drop-drop}
+use Rattle.std.specs.Simd.Lanes.{Each1}
 use Rattle.lexical.specs.Lists.{bytes, begins, same}
 use Rattle.lexical.specs.Kinds.{Kind, marks, words, code_of}
 use Rattle.lexical.specs.Symbols.{Class, letter, digit, mark, blank, other, class_of, in_run, run, Symbol, fixed, numeral, name, Found, gap, unlisted, found, Ending, no_ending, prime, query, shriek, ending_of, ending_length}
@@ -27,8 +28,7 @@ SoundAt w unlisted = Unit {0}
 SoundAt w (found s n) = Sound w s
 
 abbrev EachCoded : List (String × Kind) → Type 0
-EachCoded [] = Unit {0}
-EachCoded (e ∷ t) = (leb 10 (code_of e.1) ≡ true) × EachCoded t
+EachCoded t = Each1 (λ (e : String × Kind). leb 10 (code_of e.1) ≡ true) t
 
 words-coded : EachCoded words
 unfolding code_of
@@ -116,8 +116,7 @@ abbrev pub Stands : List ℕ → Placed → Type 0
 Stands s x = Sound (drop x.place s) x.symbol × (x.place < length s)
 
 abbrev pub AllStand : List ℕ → List Placed → Type 0
-AllStand s [] = Unit {0}
-AllStand s (x ∷ l) = Stands s x × AllStand s l
+AllStand s l = Each1 (Stands s) l
 
 scan-stands : (s w : List ℕ) (k p : ℕ) → drop p s ≡ w → AllStand s (symbols (scan_from w k p))
 unfolding scan_from symbols

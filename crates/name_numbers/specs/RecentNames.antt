@@ -17,3 +17,8 @@ pub record Earlier (letters : List ℕ) (i m : ℕ) : Type 0 where
 abbrev pub Recalls : (letters : List ℕ) → ℕ → Option ℕ → Type 0
 Recalls letters i (Some m) = Earlier letters i m
 Recalls letters i None = Unit {0}
+
+-- the number of symbol i, where it is a name: that of the first symbol with its letters
+abbrev pub NumberOf : (letters : List ℕ) → ℕ → Option ℕ → Type 0
+NumberOf letters i (Some m) = (get_or letters i 0 ≡ 0 → ⊥) × IsFirst letters i m
+NumberOf letters i None = get_or letters i 0 ≡ 0

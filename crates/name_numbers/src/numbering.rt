@@ -12,7 +12,7 @@ ghost use Rattle.std.specs.Prelude.{◌≡◌, cond, ℕ, ◌+◌, ◌≤◌, �
 ghost use Rattle.lexical.specs.Symbols.{run};
 ghost use Rattle.lexical.specs.SymbolPromises.{packed, is_name, Rows, walk_from, IsFirst, Tree};
 ghost use Rattle.lexical.specs.SymbolPromises.{filled_letters, filled_numbers, filled_values};
-ghost use Rattle.name_numbers.specs.RecentNames.{Recent, Recalls};
+ghost use Rattle.name_numbers.specs.RecentNames.{Recent, Recalls, NumberOf};
 
 use lexical::Stop;
 use lexical::bounds::SYMBOLS;
@@ -104,22 +104,22 @@ pub fn first_like(letters: &[u128; SYMBOLS], i: usize) -> usize
     letters[..i].iter().position(|b| *b == a).unwrap_or(i)
 }
 
-// The value of symbol i: of a name the number of the first one with its letters, which is put into the tree if it is i; of another symbol `old`.
-pub fn number_of(letters: &[u128; SYMBOLS], tree: &mut [u16; SLOTS], i: usize, old: u16) -> u16
+// The number of symbol i, where it is a name: that of the first one with its letters, which is put into the tree if it is i.
+pub fn number_of(letters: &[u128; SYMBOLS], tree: &mut [u16; SLOTS], i: usize) -> Option<u16>
     requires { Tree letters.now tree.old i × (i < 4096) }
-    ensures { Tree letters.now tree.new (i + 1) × (get_or letters.now i 0 ≡ 0 → result ≡ old) × ((get_or letters.now i 0 ≡ 0 → ⊥) → IsFirst letters.now i result) }
+    ensures { Tree letters.now tree.new (i + 1) × NumberOf letters.now i result }
 {
     if letters[i] == 0 {
-        return old;
+        return None;
     }
     let w = walk(letters, tree, i);
     match w {
-        Stop::At(m) => m as u16,
+        Stop::At(m) => Some(m as u16),
         Stop::Free(slot) => {
             tree[slot] = (i + 1) as u16;
-            i as u16
+            Some(i as u16)
         }
-        Stop::Deep => first_like(letters, i) as u16,
+        Stop::Deep => Some(first_like(letters, i) as u16),
     }
 }
 
@@ -143,20 +143,19 @@ pub fn numbered(
     tree: &mut [u16; SLOTS],
     recent: &mut [Option<u16>; RECENT],
     i: usize,
-    old: u16,
-) -> u16
+) -> Option<u16>
     requires { Tree letters.now tree.old i × (i < 4096) × Recent letters.now recent.old i }
-    ensures { Tree letters.now tree.new (i + 1) × (get_or letters.now i 0 ≡ 0 → result ≡ old) × ((get_or letters.now i 0 ≡ 0 → ⊥) → IsFirst letters.now i result) × Recent letters.now recent.new (i + 1) }
+    ensures { Tree letters.now tree.new (i + 1) × NumberOf letters.now i result × Recent letters.now recent.new (i + 1) }
 {
     let a = letters[i];
     if a == 0 {
-        return old;
+        return None;
     }
     if let Some(m) = recalled(letters, recent, i) {
-        return m as u16;
+        return Some(m as u16);
     }
-    let r = number_of(letters, tree, i, old);
-    recent[(a % LETTERS) as usize] = Some(r);
+    let r = number_of(letters, tree, i);
+    recent[(a % LETTERS) as usize] = r;
     r
 }
 
@@ -178,7 +177,8 @@ pub fn number_names(
     let mut recent = [None; RECENT];
     // Form 3: after an adapter of `iter_mut` (`enumerate`, `zip`) nothing is known of what was written.
     for i in 0..n {
-        let old = values[i];
-        values[i] = numbered(&letters, &mut tree, &mut recent, i, old);
+        if let Some(m) = numbered(&letters, &mut tree, &mut recent, i) {
+            values[i] = m;
+        }
     }
 }

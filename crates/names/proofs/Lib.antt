@@ -1,6 +1,6 @@
 -- Names and types: the walk over nodes, and what it finds.
 pub mod WholePass
-pub mod DeclaredAhead
+pub mod ItemEnds
 pub mod PassSteps
 pub mod PassStepsOperations
 pub mod ReachTables
@@ -32,6 +32,8 @@ pub mod PassAgreesOperations
 pub mod PassAgreesDossier
 pub mod PassAgrees
 -- what crates above name of crates below
+pub use Rattle.declared_names.proofs.ArraysCut as DeclaredNamesArraysCut
 pub use Rattle.declared_names.proofs.DeclarationNodes as DeclaredNamesDeclarationNodes
 pub use Rattle.declared_names.proofs.NodePieces as DeclaredNamesNodePieces
 pub use Rattle.declared_names.proofs.GivenSetNodes as DeclaredNamesGivenSetNodes
+pub use Rattle.declared_names.proofs.StaticRulesFoundCarriers as StaticRulesFoundCarriers

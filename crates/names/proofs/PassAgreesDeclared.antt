@@ -1,6 +1,6 @@
 -- Declared names: the key of declarations is that of their least fault; what the table says once their names are in reach, and once they are not.
 use mathlib.Core.Path.{◌≡◌, refl, ap, ap₂, ◌∙◌, sym, subst}
-use mathlib.Core.Bool.{Bool, true, false, not, cond}
+use mathlib.Core.Bool.{Bool, true, false, not, cond, false≢true}
 use mathlib.Core.List.{List, [], ◌∷◌, ◌++◌}
 use mathlib.Core.Option.{Option, none, some}
 use Prim.Native.Nat.{ℕ, ◌+◌}
@@ -19,7 +19,7 @@ use Rattle.type_rules.specs.TypesByNumber.{Names, Sizes, key, unless_key, is_fre
 use Rattle.declared_names.specs.NamesByNumber.{Typed, type_kind, shown, hidden, declared_key}
 use Rattle.names.proofs.ReachTables.{GivenIs, TypeIs, Numbered}
 use Rattle.names.proofs.TypesAgreeLeast.{two-parts, least-nil, unless-least}
-use Rattle.names.proofs.TypesAgreeTypes.{no-yes, code-positive, code-not-given}
+use Rattle.names.proofs.TypesAgreeTypes.{code-positive, code-not-given}
 use Rattle.names.proofs.TypesAgreeScope.{any_here, any-there, find-here, find-there}
 use Rattle.names.proofs.PassAgreesPlaces.{Within, nowhere, within-append, within-used, wider}
 use Rattle.names.proofs.PassAgreesOrder.{behind}
@@ -90,7 +90,7 @@ use_false : (x : Name) (u : Name → Bool) (y : Name) → use_of x u y ≡ false
 use_false x u y e = on (same_name x y) e
   where
     on : (b : Bool) → cond b true (u y) ≡ false → u y ≡ false
-    on true h = no-yes (sym h)
+    on true h = absurd (false≢true (sym h))
     on false h = h
 
 pub clear : {P : Letters → Type 0} (gs : List Given) {xs : List Typed} → TypedIn P xs → (u : Name → Bool) → ((y : Name) → P y.letters → u y ≡ false → given_of gs y ≡ none)
@@ -124,7 +124,7 @@ fresh-none no_fresh y e = refl
 fresh-none {u = u} (one_fresh {v = v} {vs = vs} f h) y e = on (same_name v.called y) refl (fresh-none h y)
   where
     on : (b : Bool) → same_name v.called y ≡ b → (use_of v.called u y ≡ true → found vs y ≡ none) → found (v ∷ vs) y ≡ none
-    on true k l = no-yes (sym f ∙ ap u (same-name v.called y k) ∙ e)
+    on true k l = absurd (false≢true (sym f ∙ ap u (same-name v.called y k) ∙ e))
     on false k l = find-there (λ (w : Variable). same_name w.called y) v vs k ∙ l (ap (λ (c : Bool). cond c true (u y)) k ∙ e)
 
 -- names declared once are found alike from either end
@@ -169,7 +169,7 @@ found_none [] y e = refl
 found_none (v ∷ vs) y e = on (same_name v.called y) refl (found_none vs y) e
   where
     on : (b : Bool) → same_name v.called y ≡ b → (has_name vs y ≡ false → found vs y ≡ none) → ◌≡◌ {A = Bool} (elim b [ true ↦ true | false ↦ has_name vs y ]) false → found (v ∷ vs) y ≡ none
-    on true h l k = no-yes (sym k)
+    on true h l k = absurd (false≢true (sym k))
     on false h l k = find-there (λ (w : Variable). same_name w.called y) v vs h ∙ l k
 
 -- ---- tables ----

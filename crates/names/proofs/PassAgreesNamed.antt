@@ -1,6 +1,6 @@
 -- What the table says behind given sets without faults.
 use mathlib.Core.Path.{◌≡◌, refl, ap, ap₂, ◌∙◌, sym, subst}
-use mathlib.Core.Bool.{Bool, true, false, not, ◌&&◌, ◌||◌, cond}
+use mathlib.Core.Bool.{Bool, true, false, not, ◌&&◌, ◌||◌, cond, false≢true}
 use mathlib.Core.List.{List, [], ◌∷◌, ◌++◌}
 use mathlib.Core.Option.{Option, none, some}
 use Prim.Native.Nat.{ℕ, suc, ◌+◌, ◌≤◌}
@@ -22,7 +22,7 @@ use Rattle.declared_names.specs.StaticRulesNames.{given_faults}
 use Rattle.type_rules.specs.TypesByNumber.{Names, entry, is_free, is_number, is_given, in_reach}
 use Rattle.declared_names.specs.NamesByNumber.{givens_named}
 use Rattle.names.proofs.ReachTables.{index_of, titled, known_element, GivenIs, TypeIs, Numbered}
-use Rattle.names.proofs.TypesAgreeTypes.{no-yes, index_in}
+use Rattle.names.proofs.TypesAgreeTypes.{index_in}
 use Rattle.names.proofs.TypesAgreeScope.{any_here, any-there, find-here, find-there, index-here, index-there, titled-finds}
 use Rattle.names.proofs.PassAgreesTables.{Sees, name-refl}
 use Rattle.names.proofs.PassAgreesUse.{in_use, any_append, use-here, elements-new, given-new, Unnamed, givens_new, title-use, element-use}
@@ -69,7 +69,7 @@ module _ (xs : List Letters) (i : ℕ) (g : Given) (gs : List Given) (e : given_
   not-title : (y : Name) → in_use (elements g) y ≡ true → same_name (plain g.title) y ≡ false
   not-title y h =
       false_from_ne_true (same_name (plain g.title) y)
-      (λ k. no-yes (sym (elements-new (g.title ∷ xs) (i + 2) (elements g) (given-new xs i g gs e).elements_are y (use-here g.title xs y k)) ∙ h))
+      (λ k. absurd (false≢true (sym (elements-new (g.title ∷ xs) (i + 2) (elements g) (given-new xs i g gs e).elements_are y (use-here g.title xs y k)) ∙ h)))
 
   -- another set has another title
   titles-apart : (h : Letters) → titled gs h ≡ true → same g.title h ≡ false

@@ -1,6 +1,6 @@
 -- Names with endings: parameters, and variables primed.
 use mathlib.Core.Path.{◌≡◌, refl, ap, ap₂, ◌∙◌, sym, subst}
-use mathlib.Core.Bool.{Bool, true, false, not, cond}
+use mathlib.Core.Bool.{Bool, true, false, not, cond, false≢true}
 use mathlib.Core.List.{List, [], ◌∷◌, ◌++◌, map}
 use mathlib.Core.Option.{Option, none, some}
 use Prim.Native.Nat.{ℕ, ◌+◌, ◌*◌, ◌≤◌}
@@ -20,7 +20,6 @@ use Rattle.declared_names.specs.StaticRulesScope.{variables}
 use Rattle.declared_names.specs.StaticRulesNames.{type_faults, parameter_name, parameter_faults}
 use Rattle.type_rules.specs.TypesByNumber.{Names}
 use Rattle.declared_names.specs.NamesByNumber.{variables_of, parameters_of, type_kind, shown, hidden}
-use Rattle.names.proofs.TypesAgreeTypes.{no-yes}
 use Rattle.names.proofs.TypesAgreeScope.{find-there, ended}
 use Rattle.names.proofs.PassAgreesTables.{same-name}
 use Rattle.names.proofs.PassAgreesDeclared.{use_of, typed_faults, typed_width, Carried, no_carried, one_carried, Fresh, no_fresh, one_fresh, found, has_typed}
@@ -35,7 +34,7 @@ name_of l e = record { letters = l; ending = e }
 
 any-ending : {A : Type 0} (f : A → Name) (n : ℕ) → ((x : A) → ending_code (f x).ending ≡ n) → (xs : List A) (y : Name) → any (λ (x : A). same_name (f x) y) xs ≡ true → ending_code y.ending ≡ n
 unfolding any
-any-ending f n h [] y e = no-yes e
+any-ending f n h [] y e = absurd (false≢true e)
 any-ending f n h (x ∷ xs) y e = on (same_name (f x) y) refl e (any-ending f n h xs y)
   where
     on : (b : Bool) → same_name (f x) y ≡ b → ◌≡◌ {A = Bool} (elim b [ true ↦ true | false ↦ any (λ x. same_name (f x) y) xs ]) true
@@ -48,7 +47,7 @@ use-ending xs y e = any-ending plain 0 (λ x. refl) xs y e
 
 pub variables-ending : (e : Ending) (ds : List Declaration) (y : Name) → has_typed (variables_of e ds) y ≡ true → ending_code y.ending ≡ ending_code e
 unfolding variables_of any
-variables-ending e [] y h = no-yes h
+variables-ending e [] y h = absurd (false≢true h)
 variables-ending e (d ∷ ds) y h = on (same_name (name_of d.declared e) y) refl h (variables-ending e ds y)
   where
     on : (b : Bool) → same_name (name_of d.declared e) y ≡ b → ◌≡◌ {A = Bool} (elim b [ true ↦ true | false ↦ has_typed (variables_of e ds) y ]) true
@@ -62,7 +61,7 @@ direction-ending outward = omega arith
 
 pub parameters-ending : (ps : List Parameter) (y : Name) → has_typed (parameters_of ps) y ≡ true → 2 ≤ ending_code y.ending
 unfolding parameters_of any
-parameters-ending [] y h = no-yes h
+parameters-ending [] y h = absurd (false≢true h)
 parameters-ending (x ∷ ps) y h = on (same_name (parameter_name x) y) refl h (parameters-ending ps y)
   where
     on : (b : Bool) → same_name (parameter_name x) y ≡ b → ◌≡◌ {A = Bool} (elim b [ true ↦ true | false ↦ has_typed (parameters_of ps) y ]) true
@@ -82,13 +81,12 @@ other_none gs e (d ∷ ds) y h = on (carrier_of gs d.type) refl (other_none gs e
         ap (λ (vs : List Variable). found vs y) (variables-one gs e d ds c k)
         ∙ find-there (λ (w : Variable). same_name w.called y) (record { called = name_of d.declared e; carrier = c }) (variables gs e ds) (h d.declared) ∙ r
 
-pub inputs-none : (gs : List Given) (ps : List Parameter) (y : Name) → ((x : Letters) → same_name (name_of x query) y ≡ false) → found (scopes.parameters_of gs inward ps) y ≡ none
+-- nor are parameters of a direction, by a name with another ending
+pub other_parameters : (c : Direction) (gs : List Given) (ps : List Parameter) (y : Name) → ((x : Letters) → same_name (name_of x (ending_of c)) y ≡ false)
+    → found (scopes.parameters_of gs c ps) y ≡ none
 unfolding scopes.parameters_of
-inputs-none gs ps y h = other_none gs query (map (λ (x : Parameter). x.declaration) (filter (λ (x : Parameter). scopes.is_input x.direction) ps)) y h
-
-pub outputs_none : (gs : List Given) (ps : List Parameter) (y : Name) → ((x : Letters) → same_name (name_of x shriek) y ≡ false) → found (scopes.parameters_of gs outward ps) y ≡ none
-unfolding scopes.parameters_of
-outputs_none gs ps y h = other_none gs shriek (map (λ (x : Parameter). x.declaration) (filter (λ (x : Parameter). scopes.is_output x.direction) ps)) y h
+other_parameters inward gs ps y h = other_none gs query (map (λ (x : Parameter). x.declaration) (filter (λ (x : Parameter). scopes.is_input x.direction) ps)) y h
+other_parameters outward gs ps y h = other_none gs shriek (map (λ (x : Parameter). x.declaration) (filter (λ (x : Parameter). scopes.is_output x.direction) ps)) y h
 
 -- ---- primes ----
 
@@ -155,36 +153,30 @@ unfolding find
 found-cons v vs ws y e = ap (λ (o : Option Variable). elim (same_name v.called y) as (λ (c : Bool). Option Variable) [ true ↦ some v | false ↦ o ]) e
 
 module _ (gs : List Given) (l : Letters) where
-  input-one : (c : Direction) (d : Declaration) (ps : List Parameter) (k : Carrier) → carrier_of gs d.type ≡ some k → (vs : List Variable)
-      → found vs (name_of l query) ≡ found (scopes.parameters_of gs inward ps) (name_of l query)
-      → found (record { called = name_of d.declared (ending_of c); carrier = k } ∷ vs) (name_of l query)
-      ≡ found (scopes.parameters_of gs inward (record { direction = c; declaration = d } ∷ ps)) (name_of l query)
+  -- one more variable with the ending of the name
+  one-more : (e : Ending) (d : Declaration) (ds : List Declaration) (k : Carrier) → carrier_of gs d.type ≡ some k → (vs : List Variable)
+      → found vs (name_of l e) ≡ found (variables gs e ds) (name_of l e)
+      → found (record { called = name_of d.declared e; carrier = k } ∷ vs) (name_of l e) ≡ found (variables gs e (d ∷ ds)) (name_of l e)
+  one-more e d ds k f vs h =
+      found-cons (record { called = name_of d.declared e; carrier = k }) vs (variables gs e ds) (name_of l e) h
+      ∙ sym (ap (λ (ws : List Variable). found ws (name_of l e)) (variables-one gs e d ds k f))
+
+  -- a parameter of the direction b in front, among those of the direction c
+  parameter-one : (c b : Direction) (d : Declaration) (ps : List Parameter) (k : Carrier) → carrier_of gs d.type ≡ some k → (vs : List Variable)
+      → found vs (name_of l (ending_of c)) ≡ found (scopes.parameters_of gs c ps) (name_of l (ending_of c))
+      → found (record { called = name_of d.declared (ending_of b); carrier = k } ∷ vs) (name_of l (ending_of c))
+      ≡ found (scopes.parameters_of gs c (record { direction = b; declaration = d } ∷ ps)) (name_of l (ending_of c))
   unfolding scopes.parameters_of filter same_name
-  input-one inward d ps k e vs h =
-      found-cons (record { called = name_of d.declared query; carrier = k }) vs (scopes.parameters_of gs inward ps) (name_of l query) h
-      ∙ sym (ap (λ (ws : List Variable). found ws (name_of l query)) (variables-one gs query d _ k e))
-  input-one outward d ps k e vs h =
+  parameter-one inward inward d ps k e vs h = one-more query d _ k e vs h
+  parameter-one inward outward d ps k e vs h =
       find-there (λ (w : Variable). same_name w.called (name_of l query)) (record { called = name_of d.declared shriek; carrier = k }) vs refl ∙ h
-
-  output-one : (c : Direction) (d : Declaration) (ps : List Parameter) (k : Carrier) → carrier_of gs d.type ≡ some k → (vs : List Variable)
-      → found vs (name_of l shriek) ≡ found (scopes.parameters_of gs outward ps) (name_of l shriek)
-      → found (record { called = name_of d.declared (ending_of c); carrier = k } ∷ vs) (name_of l shriek)
-      ≡ found (scopes.parameters_of gs outward (record { direction = c; declaration = d } ∷ ps)) (name_of l shriek)
-  unfolding scopes.parameters_of filter same_name
-  output-one outward d ps k e vs h =
-      found-cons (record { called = name_of d.declared shriek; carrier = k }) vs (scopes.parameters_of gs outward ps) (name_of l shriek) h
-      ∙ sym (ap (λ (ws : List Variable). found ws (name_of l shriek)) (variables-one gs shriek d _ k e))
-  output-one inward d ps k e vs h =
+  parameter-one outward inward d ps k e vs h =
       find-there (λ (w : Variable). same_name w.called (name_of l shriek)) (record { called = name_of d.declared query; carrier = k }) vs refl ∙ h
+  parameter-one outward outward d ps k e vs h = one-more shriek d _ k e vs h
 
-  pub inputs-found : {P : Letters → Type 0} (ps : List Parameter) {vs : List Variable} → Carried P gs (parameters_of ps) vs
-      → found vs (name_of l query) ≡ found (scopes.parameters_of gs inward ps) (name_of l query)
+  pub parameters-found : {P : Letters → Type 0} (c : Direction) (ps : List Parameter) {vs : List Variable} → Carried P gs (parameters_of ps) vs
+      → found vs (name_of l (ending_of c)) ≡ found (scopes.parameters_of gs c ps) (name_of l (ending_of c))
   unfolding scopes.parameters_of filter parameters_of variables find
-  inputs-found [] no_carried = refl
-  inputs-found (x ∷ ps) (one_carried {vs = vs} c i p q e f g h) = input-one x.direction x.declaration ps c f vs (inputs-found ps h)
-
-  pub outputs-found : {P : Letters → Type 0} (ps : List Parameter) {vs : List Variable} → Carried P gs (parameters_of ps) vs
-      → found vs (name_of l shriek) ≡ found (scopes.parameters_of gs outward ps) (name_of l shriek)
-  unfolding scopes.parameters_of filter parameters_of variables find
-  outputs-found [] no_carried = refl
-  outputs-found (x ∷ ps) (one_carried {vs = vs} c i p q e f g h) = output-one x.direction x.declaration ps c f vs (outputs-found ps h)
+  parameters-found inward [] no_carried = refl
+  parameters-found outward [] no_carried = refl
+  parameters-found c (x ∷ ps) (one_carried {vs = vs} k i p q e f g h) = parameter-one c x.direction x.declaration ps k f vs (parameters-found c ps h)

@@ -1,6 +1,6 @@
 -- The names in reach of an operation's predicates: variables plain and primed, inputs and outputs; and the table once they are out of reach again.
 use mathlib.Core.Path.{◌≡◌, refl, ap, ap₂, ◌∙◌, sym}
-use mathlib.Core.Bool.{Bool, true, false, cond}
+use mathlib.Core.Bool.{Bool, true, false, cond, false≢true}
 use mathlib.Core.List.{List, ◌∷◌, ◌++◌}
 use mathlib.Core.Option.{Option, none}
 use Prim.Native.Nat.{◌≤◌, ◌<◌}
@@ -17,7 +17,6 @@ use Rattle.declared_names.specs.StaticRulesScope.{variables}
 use Rattle.type_rules.specs.TypesByNumber.{Names, Sizes}
 use Rattle.declared_names.specs.NamesByNumber.{Typed, variables_of, parameters_of, shown, hidden, reaching, leaving}
 use Rattle.names.proofs.ReachTables.{Numbered}
-use Rattle.names.proofs.TypesAgreeTypes.{no-yes}
 use Rattle.names.proofs.TypesAgreeScope.{any-there}
 use Rattle.names.proofs.PassAgreesTables.{Sees, Sits, name-refl, put, sees-same, unused}
 use Rattle.names.proofs.PassAgreesTypes.{Sized}
@@ -27,7 +26,7 @@ use Rattle.names.proofs.PassAgreesGivens.{GivensIn}
 use Rattle.names.proofs.PassAgreesNamed.{element_type, Base}
 use Rattle.names.proofs.PassAgreesScopes.{first_letters, Group, group-none, group-shown, group-hidden, used-sits, free-sits}
 use Rattle.names.proofs.PassAgreesConditions.{AreUsed, use-same, found-append}
-use Rattle.names.proofs.PassAgreesParameters.{name_of, use-ending, variables-ending, parameters-ending, other_none, inputs-none, outputs_none, Primed, primed, shown-primed, hidden-primed, inputs-found, outputs-found}
+use Rattle.names.proofs.PassAgreesParameters.{name_of, use-ending, variables-ending, parameters-ending, other_none, other_parameters, Primed, primed, shown-primed, hidden-primed, parameters-found}
 use Rattle.std.proofs.lemmas.Bool.{false_from_ne_true}
 
 -- ---- the definitions' order of the lists ----
@@ -56,16 +55,16 @@ module _ (gs : List Given) (ds : List Declaration) (ps : List Parameter) {P : Le
   unfolding same_name
   at-ending l t no_ending =
       plain-only t (found (variables gs no_ending ds) (name_of l no_ending)) _ _ _ _ (other_none gs prime ds (name_of l no_ending) (λ x. refl)) (parameters-none (name_of l no_ending) (omega arith))
-      (inputs-none gs ps (name_of l no_ending) (λ x. refl)) (outputs_none gs ps (name_of l no_ending) (λ x. refl))
+      (other_parameters inward gs ps (name_of l no_ending) (λ x. refl)) (other_parameters outward gs ps (name_of l no_ending) (λ x. refl))
   at-ending l t prime =
       prime-only t _ (found (variables gs prime ds) (name_of l prime)) _ _ _ (other_none gs no_ending ds (name_of l prime) (λ x. refl)) (parameters-none (name_of l prime) (omega arith))
-      (inputs-none gs ps (name_of l prime) (λ x. refl)) (outputs_none gs ps (name_of l prime) (λ x. refl))
+      (other_parameters inward gs ps (name_of l prime) (λ x. refl)) (other_parameters outward gs ps (name_of l prime) (λ x. refl))
   at-ending l t query =
       input-only t _ _ _ _ _ (other_none gs no_ending ds (name_of l query) (λ x. refl)) (other_none gs prime ds (name_of l query) (λ x. refl))
-      (inputs-found gs l ps k) (outputs_none gs ps (name_of l query) (λ x. refl))
+      (parameters-found gs l inward ps k) (other_parameters outward gs ps (name_of l query) (λ x. refl))
   at-ending l t shriek =
       output-only t _ _ _ _ _ (other_none gs no_ending ds (name_of l shriek) (λ x. refl)) (other_none gs prime ds (name_of l shriek) (λ x. refl))
-      (inputs-none gs ps (name_of l shriek) (λ x. refl)) (outputs-found gs l ps k)
+      (other_parameters inward gs ps (name_of l shriek) (λ x. refl)) (parameters-found gs l outward ps k)
 
   lists-in_order : (y : Name) (t : Option Ty)
       → or_type (found (variables gs prime ds) y) (or_type (found (variables gs no_ending ds) y) (or_type (found vs y) t))
@@ -86,7 +85,7 @@ module _ (gs : List Given) (ds : List Declaration) (ps : List Parameter) {P : Le
 
 carried-letters : {P : Letters → Type 0} {gs : List Given} {xs : List Typed} {vs : List Variable} → Carried P gs xs vs → (y : Name) → has_typed xs y ≡ true → P y.letters
 unfolding any
-carried-letters no_carried y e = no-yes e
+carried-letters no_carried y e = absurd (false≢true e)
 carried-letters {P} (one_carried {x = x} {xs = xs} c i p q e f g h) y k = first_letters P x xs p y (λ m. carried-letters h y m) k
 
 module _ (ρ : Numbering) (P : Letters → Type 0) (ν : Numbered ρ P) {gs : List Given} (p : GivensIn P gs) (z : Sizes) (d : Sized gs z) where

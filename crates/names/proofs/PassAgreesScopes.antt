@@ -1,6 +1,6 @@
 -- The variables of a state in reach and out of reach: what the table says, and the scope that it shows.
 use mathlib.Core.Path.{◌≡◌, refl, ap, ◌∙◌, sym, subst}
-use mathlib.Core.Bool.{Bool, true, false, not, cond}
+use mathlib.Core.Bool.{Bool, true, false, not, cond, false≢true}
 use mathlib.Core.List.{List, [], ◌∷◌, ◌++◌, map}
 use mathlib.Core.Option.{Option, none}
 use Prim.Native.Nat.{ℕ, zero, suc, ◌+◌, ◌<◌}
@@ -18,7 +18,6 @@ use Rattle.declared_names.specs.StaticRulesNames.{declaration_faults, judge_pred
 use Rattle.type_rules.specs.TypesByNumber.{Names, Sizes, entry, is_free, is_number, is_given, in_reach, least_key}
 use Rattle.declared_names.specs.NamesByNumber.{Typed, variables_of, shown, hidden, predicate_at, state_key, state_named}
 use Rattle.names.proofs.ReachTables.{titled, GivenIs, TypeIs, Numbered, Shows, PredIn}
-use Rattle.names.proofs.TypesAgreeTypes.{no-yes}
 use Rattle.names.proofs.TypesAgreeScope.{titled-finds}
 use Rattle.names.proofs.TypesAgree.{judged-pred}
 use Rattle.names.proofs.PassAgreesPlaces.{Within, pred-within}
@@ -35,7 +34,7 @@ use Rattle.names.proofs.PassAgreesStates.{declarations-typed, declarations-lengt
 
 fresh-unused : {u : Name → Bool} {vs : List Variable} → Fresh u vs → (y : Name) → has_name vs y ≡ true → u y ≡ false
 unfolding any
-fresh-unused no_fresh y e = no-yes e
+fresh-unused no_fresh y e = absurd (false≢true e)
 fresh-unused {u = u} (one_fresh {v = v} {vs = vs} f h) y e = on (same_name v.called y) refl e (fresh-unused h y)
   where
     on : (b : Bool) → same_name v.called y ≡ b → ◌≡◌ {A = Bool} (elim b [ true ↦ true | false ↦ has_name vs y ]) true → (has_name vs y ≡ true → use_of v.called u y ≡ false) → u y ≡ false
@@ -53,7 +52,7 @@ first_letters P x xs p y l e = on (same_name x.called y) refl e
 
 typed-letters : {P : Letters → Type 0} {xs : List Typed} → TypedIn P xs → (y : Name) → has_typed xs y ≡ true → P y.letters
 unfolding any
-typed-letters no_typed y e = no-yes e
+typed-letters no_typed y e = absurd (false≢true e)
 typed-letters {P} (one_typed {x = x} {xs = xs} p q h) y e = first_letters P x xs p y (typed-letters h y) e
 
 -- titles are in use
@@ -63,10 +62,10 @@ TitlesIn gs xs = (l : Letters) → is_taken xs l ≡ false → titled gs l ≡ f
 pub titles-given : (gs : List Given) → TitlesIn gs (given_names gs)
 titles-given gs l e =
     false_from_ne_true (titled gs l)
-    (λ k. no-yes (sym (sym (taken_is (given_names gs) l) ∙ e) ∙ title-taken gs l (titled-finds gs l k).given (titled-finds gs l k).finds))
+    (λ k. absurd (false≢true (sym (sym (taken_is (given_names gs) l) ∙ e) ∙ title-taken gs l (titled-finds gs l k).given (titled-finds gs l k).finds)))
 
 right-false : (a b : Bool) → cond a true b ≡ false → b ≡ false
-right-false true b e = no-yes (sym e)
+right-false true b e = absurd (false≢true (sym e))
 right-false false b e = e
 
 pub titles-more : (gs : List Given) (ys xs : List Letters) → TitlesIn gs xs → TitlesIn gs (ys ++ xs)

@@ -1,6 +1,6 @@
 -- What a table of names says of each name, and what a change of one entry makes of it.
 use mathlib.Core.Path.{◌≡◌, refl, ap, ◌∙◌, sym, subst}
-use mathlib.Core.Bool.{Bool, true, false, not}
+use mathlib.Core.Bool.{Bool, true, false, not, false≢true}
 use mathlib.Core.List.{List}
 use mathlib.Core.Option.{Option, none, some}
 use Prim.Native.Nat.{ℕ, zero, suc, ◌≤◌, ◌<◌}
@@ -18,7 +18,7 @@ use Rattle.declared_names.specs.StaticRulesCarriers.{ending_code, same_name, giv
 use Rattle.declared_names.specs.StaticRulesTypes.{Ty}
 use Rattle.type_rules.specs.TypesByNumber.{Names, entry, is_free}
 use Rattle.names.proofs.ReachTables.{GivenIs, TypeIs, Numbered}
-use Rattle.names.proofs.TypesAgreeTypes.{no-yes, code-positive}
+use Rattle.names.proofs.TypesAgreeTypes.{code-positive}
 
 -- ---- names ----
 
@@ -44,7 +44,7 @@ same-name x y e = on (eqb (ending_code x.ending) (ending_code y.ending)) refl e
         let p : x.letters ≡ y.letters = same_true x.letters y.letters k in
         let q : x.ending ≡ y.ending = sym (unended-is x.ending) ∙ ap unended (eqb-true (ending_code x.ending) (ending_code y.ending) h) ∙ unended-is y.ending in
         λ i. record { letters = p i; ending = q i }
-    on false h k = no-yes k
+    on false h k = absurd (false≢true k)
 
 pub name-refl : (x : Name) → same_name x x ≡ true
 unfolding same_name
@@ -96,7 +96,7 @@ module _ (ρ : Numbering) (P : Letters → Type 0) (ν : Numbered ρ P) where
               subst (λ (n : Name). Q n (entry (set T (name_number ρ x) k) (name_number ρ n))) (same-name x y e)
               (subst (Q x) (sym (get_or-set_same T (name_number ρ x) k 0 (omega (arith, number_small x px)))) here)
           on false e =
-              subst (Q y) (sym (get_or-set_other T (name_number ρ x) (name_number ρ y) k 0 (λ h. no-yes (sym e ∙ one_number x y px py (sym h))))) (there y py e)
+              subst (Q y) (sym (get_or-set_other T (name_number ρ x) (name_number ρ y) k 0 (λ h. absurd (false≢true (sym e ∙ one_number x y px py (sym h)))))) (there y py e)
 
     -- one entry is changed
     pub put : {T : Names} {u : Name → Bool} {r : Name → Option Ty} → Sees ρ P gs T u r → (x : Name) → P x.letters → (k : ℕ) (u' : Name → Bool) (r' : Name → Option Ty)

@@ -1,6 +1,6 @@
 -- Names in use: the lists of the definitions, searched by whole names; and given sets without faults, none of whose names is in use before.
 use mathlib.Core.Path.{◌≡◌, refl, ap, ap₂, ◌∙◌, sym}
-use mathlib.Core.Bool.{Bool, true, false, not, cond}
+use mathlib.Core.Bool.{Bool, true, false, not, cond, false≢true}
 use mathlib.Core.List.{List, [], ◌∷◌, ◌++◌}
 use mathlib.Core.Option.{none}
 use Prim.Native.Nat.{ℕ, suc, ◌+◌}
@@ -15,7 +15,6 @@ use Rattle.form.specs.Headings.{given_length}
 use Rattle.declared_names.specs.StaticRulesCarriers.{same_name, plain, given_of}
 use Rattle.declared_names.specs.StaticRulesScope.{is_taken, element_of, given_names}
 use Rattle.declared_names.specs.StaticRulesNames.{new_name, element_faults, given_faults}
-use Rattle.names.proofs.TypesAgreeTypes.{no-yes}
 use Rattle.names.proofs.TypesAgreeScope.{any_here, any-there, find-there}
 use Rattle.names.proofs.PassAgreesTables.{same-name}
 use Rattle.refusals.proofs.FaultLists.{append_nil-both, unless-nil}
@@ -28,8 +27,8 @@ same-sym x y = on (same x y) refl (same y x) refl
   where
     on : (b : Bool) → same x y ≡ b → (c : Bool) → same y x ≡ c → b ≡ c
     on true h true k = refl
-    on true h false k = no-yes (sym k ∙ ap (same y) (same_true x y h) ∙ same_refl y)
-    on false h true k = sym (no-yes (sym h ∙ ap (same x) (same_true y x k) ∙ same_refl x))
+    on true h false k = absurd (false≢true (sym k ∙ ap (same y) (same_true x y h) ∙ same_refl y))
+    on false h true k = absurd (false≢true (sym h ∙ ap (same x) (same_true y x k) ∙ same_refl x))
     on false h false k = refl
 
 pub taken_is : (xs : List Letters) (l : Letters) → is_taken xs l ≡ in_use xs (plain l)
@@ -75,7 +74,7 @@ unfolding new_name
 new_unused xs x i e = sym (taken_is xs x) ∙ not-true (is_taken xs x) (unless-nil (not (is_taken xs x)) (fault i name_in_use) e)
 
 new_other : (xs : List Letters) (x : Letters) (i : ℕ) → new_name xs x i ≡ [] → (y : Name) → in_use xs y ≡ true → same_name (plain x) y ≡ false
-new_other xs x i e y h = false_from_ne_true (same_name (plain x) y) (λ k. no-yes (sym (new_unused xs x i e) ∙ ap (in_use xs) (same-name (plain x) y k) ∙ h))
+new_other xs x i e y h = false_from_ne_true (same_name (plain x) y) (λ k. absurd (false≢true (sym (new_unused xs x i e) ∙ ap (in_use xs) (same-name (plain x) y k) ∙ h)))
 
 pub elements-new : (xs : List Letters) (i : ℕ) (es : List Letters) → element_faults xs i es ≡ [] → (y : Name) → in_use xs y ≡ true → in_use es y ≡ false
 unfolding element_faults any

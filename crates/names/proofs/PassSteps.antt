@@ -2,12 +2,11 @@
 use mathlib.Core.Logic.{◌⊎◌, inl, inr}
 use mathlib.Core.Path.{◌≡◌, refl, ap, sym, ◌∙◌}
 use mathlib.Core.List.{List, [], ◌∷◌, ◌++◌}
-use Prim.Native.Nat.{ℕ, suc, ◌+◌, ◌-◌, ◌≤◌, ◌<◌, min}
-use native.Mathlib.Nat.{zero-add}
+use Prim.Native.Nat.{ℕ, suc, ◌+◌, ◌<◌}
 use native.Mathlib.Omega.{arith}
 use Rattle.form.specs.Headings.{ainit_at, cinit_at, retrieve_at}
-use lib.ListN.{length, take, drop, get_or, length-drop, length-append}
-use lib.Seq.{drop-drop, drop_at, take_at, take-length}
+use lib.ListN.{length, take, drop, get_or, length-append}
+use lib.Seq.{drop_at, take_at, take-length}
 use Rattle.lexical.specs.Symbols.{no_ending}
 use Rattle.form.specs.Tree.{Declaration, declarations, Parameter, Pred, State, Dossier}
 use Rattle.form.specs.Written.{ending_of}
@@ -16,7 +15,6 @@ use Rattle.type_rules.specs.TypesByNumber.{Names, Sizes, fault_key, pred_key, Pr
 use Rattle.declared_names.specs.NamesByNumber.{Typed, typed_codes, variables_of, parameters_of, shown, hidden, predicate_at, state_key, state_named, conditions_key, conditions_named}
 use Rattle.declared_names.specs.PassPromises.{typed_code, DeclaredEnd, PredicateEnd, ConditionSeen, DeclaredSeen, ShownSeen, HiddenSeen, StateSeen, Variables, three_codes, ConditionsSeen}
 use Rattle.type_rules.specs.declared.Seen.{Seen}
-use Rattle.declared_names.proofs.DeclarationNodes.{node-a}
 use Rattle.type_rules.proofs.TypeNumbers.{inside-none, inside-some}
 
 -- the nodes of variables and of parameters are those of their names with their types
@@ -32,25 +30,7 @@ parameters-codes i (x ∷ xs) ρ =
     ap (λ (l : List ℕ). typed_code i (record { called = record { letters = x.declaration.declared; ending = ending_of x.direction }; type = x.declaration.type }) ρ ++ l)
     (parameters-codes (i + 3 + type_width x.declaration.type) xs ρ)
 
--- the node of a predicate has the length of what follows
-module _ (code : List ℕ) (at : ℕ) (p : Pred) (i : ℕ) (ρ : Numbering) (rest : List ℕ) (e : drop at code ≡ condition_codes i p ρ ++ rest) where
-  pub condition-length : 4 + get_or code (at + 1) 0 ≡ length (condition_codes i p ρ)
-  unfolding condition_codes
-  condition-length =
-      ap (λ (n : ℕ). 4 + n) (node-a code at 7 i (length (pred_codes p i ρ)) 0 (pred_codes p i ρ ++ rest) e)
-      ∙ sym (length-append (node 7 i (length (pred_codes p i ρ)) 0) (pred_codes p i ρ))
-
-  pub condition-room : length code - at ≡ length (condition_codes i p ρ) + length rest
-  condition-room = sym (length-drop at code) ∙ (ap (λ (l : List ℕ). length l) e ∙ length-append (condition_codes i p ρ) rest)
-
-pub condition-end : (code : List ℕ) (at n r : ℕ) → n ≡ get_or code (at + 1) 0 → at ≤ length code → r ≡ min (at + 4 + n) (length code) → PredicateEnd code at r
-condition-end code at n r q h m =
-    record {
-      behind = omega arith;
-      within = omega arith;
-      right = λ p i ρ rest e. let s = condition-length code at p i ρ rest e in let t = condition-room code at p i ρ rest e in omega arith;
-    }
-
+-- a predicate with its node in front
 pub condition-seen : (code : List ℕ) (T U : Names) (z : Sizes) (r : Seen) → PredSeen code (length code) T U z r → ConditionSeen code T U z (fault_key r.fault)
 unfolding condition_codes
 condition-seen code T U z r s =
@@ -137,8 +117,7 @@ state-short code T U z r h =
     record { right = λ s i ρ e. elim (never-state code h s i ρ e) [ ]; named = λ s i ρ e q. elim (never-state code h s i ρ e) [ ] }
 
 -- ainit, cinit and retrieve, one behind the other
-module _ (code fs bs cs : List ℕ) (p q : ℕ) (pe : PredicateEnd code 0 p) (qe : PredicateEnd code p q) (fs-is : fs ≡ take p code) (bs-is : bs ≡ take (q - p) (drop p code))
-    (cs-is : cs ≡ drop q code) (d : Dossier) (ρ : Numbering) (e : code ≡ three_codes d ρ) where
+module _ (d : Dossier) (ρ : Numbering) where
   abbrev ainit_codes : List ℕ
   ainit_codes = condition_codes (ainit_at d + 2) d.ainit ρ
 
@@ -148,29 +127,28 @@ module _ (code fs bs cs : List ℕ) (p q : ℕ) (pe : PredicateEnd code 0 p) (qe
   abbrev retrieve_codes : List ℕ
   retrieve_codes = condition_codes (retrieve_at d + 2) d.retrieve ρ
 
-  ainit-end : p ≡ length ainit_codes
-  ainit-end = pe.right d.ainit (ainit_at d + 2) ρ (cinit_codes ++ retrieve_codes) e ∙ zero-add (length ainit_codes)
+module _ (code : List ℕ) (p : ℕ) (pe : PredicateEnd code p) (d : Dossier) (ρ : Numbering) (e : code ≡ three_codes d ρ) where
+  ainit-end : p ≡ length (ainit_codes d ρ)
+  ainit-end = pe.right d.ainit (ainit_at d + 2) ρ (cinit_codes d ρ ++ retrieve_codes d ρ) e
 
-  behind-ainit : drop p code ≡ cinit_codes ++ retrieve_codes
-  behind-ainit = back code p ainit_codes (cinit_codes ++ retrieve_codes) e ainit-end
+  ainit-part : (fs : List ℕ) → fs ≡ take p code → fs ≡ ainit_codes d ρ
+  ainit-part fs fs-is = fs-is ∙ front code p (ainit_codes d ρ) (cinit_codes d ρ ++ retrieve_codes d ρ) e ainit-end
 
-  cinit-end : q ≡ p + length cinit_codes
-  cinit-end = qe.right d.cinit (cinit_at d + 2) ρ retrieve_codes behind-ainit
+  module _ (behind : List ℕ) (q : ℕ) (behind-is : behind ≡ drop p code) (qe : PredicateEnd behind q) where
+    behind-ainit : behind ≡ cinit_codes d ρ ++ retrieve_codes d ρ
+    behind-ainit = behind-is ∙ back code p (ainit_codes d ρ) (cinit_codes d ρ ++ retrieve_codes d ρ) e ainit-end
 
-  pub ainit-part : fs ≡ ainit_codes
-  ainit-part = fs-is ∙ front code p ainit_codes (cinit_codes ++ retrieve_codes) e ainit-end
+    cinit-end : q ≡ length (cinit_codes d ρ)
+    cinit-end = qe.right d.cinit (cinit_at d + 2) ρ (retrieve_codes d ρ) behind-ainit
 
-  pub cinit-part : bs ≡ cinit_codes
-  cinit-part = bs-is ∙ front (drop p code) (q - p) cinit_codes retrieve_codes behind-ainit (let l = cinit-end in omega arith)
+    cinit-part : (bs : List ℕ) → bs ≡ take q behind → bs ≡ cinit_codes d ρ
+    cinit-part bs bs-is = bs-is ∙ front behind q (cinit_codes d ρ) (retrieve_codes d ρ) behind-ainit cinit-end
 
-  pub retrieve-part : cs ≡ retrieve_codes
-  retrieve-part =
-      cs-is
-      ∙ (ap (λ (n : ℕ). drop n code) cinit-end
-      ∙ (sym (drop-drop (length cinit_codes) p code) ∙ back (drop p code) (length cinit_codes) cinit_codes retrieve_codes behind-ainit refl))
+    retrieve-part : (cs : List ℕ) → cs ≡ drop q behind → cs ≡ retrieve_codes d ρ
+    retrieve-part cs cs-is = cs-is ∙ back behind q (cinit_codes d ρ) (retrieve_codes d ρ) behind-ainit cinit-end
 
-module _ (code A C fs : List ℕ) (p q : ℕ) (pe : PredicateEnd code 0 p) (qe : PredicateEnd code p q) (fs-is : fs ≡ take p code) (T T₁ T₂ : Names) (z : Sizes) (f : ℕ)
-    (one : ShownSeen A 0 T T₁) (seen : ConditionSeen fs T₁ T₂ z f) where
+module _ (code A C fs : List ℕ) (p : ℕ) (pe : PredicateEnd code p) (fs-is : fs ≡ take p code) (T T₁ T₂ : Names) (z : Sizes) (f : ℕ) (one : ShownSeen A 0 T T₁)
+    (seen : ConditionSeen fs T₁ T₂ z f) where
   abbrev first_of : Dossier → List Typed
   first_of d = variables_in d.abstract
 
@@ -189,7 +167,7 @@ module _ (code A C fs : List ℕ) (p q : ℕ) (pe : PredicateEnd code 0 p) (qe :
 
     ainit-fault : code ≡ three_codes d ρ → f ≡ pred_key d.ainit (shown (first_of d) 0 T ρ) ρ z (ainit_at d + 2)
     ainit-fault e =
-        seen.right d.ainit (ainit_at d + 2) ρ (ainit-part code fs (take (q - p) (drop p code)) (drop q code) p q pe qe fs-is refl refl d ρ e)
+        seen.right d.ainit (ainit_at d + 2) ρ (ainit-part code p pe d ρ e fs fs-is)
         ∙ ap (λ (t : Names). pred_key d.ainit t ρ z (ainit_at d + 2)) with-abstract
 
   abbrev after_abstract : Dossier → Numbering → Names
@@ -209,8 +187,8 @@ module _ (code A C fs : List ℕ) (p q : ℕ) (pe : PredicateEnd code 0 p) (qe :
         named = λ d ρ e v w. elim (not w) [ ];
       }
 
-  module _ (f-none : f ≡ 0) (bs : List ℕ) (bs-is : bs ≡ take (q - p) (drop p code)) (T₃ T₄ T₅ : Names) (g : ℕ) (hid : HiddenSeen A 0 2 T₂ T₃) (two : ShownSeen C 0 T₃ T₄)
-      (seen₂ : ConditionSeen bs T₄ T₅ z g) where
+  module _ (f-none : f ≡ 0) (behind : List ℕ) (q : ℕ) (behind-is : behind ≡ drop p code) (qe : PredicateEnd behind q) (bs : List ℕ) (bs-is : bs ≡ take q behind) (T₃ T₄ T₅ : Names) (g : ℕ)
+      (hid : HiddenSeen A 0 2 T₂ T₃) (two : ShownSeen C 0 T₃ T₄) (seen₂ : ConditionSeen bs T₄ T₅ z g) where
     module _ (d : Dossier) (ρ : Numbering) (v : Variables (declarations d.abstract) (declarations d.concrete) ρ A C) where
       with-concrete : T₄ ≡ with_concrete d ρ
       with-concrete =
@@ -220,7 +198,7 @@ module _ (code A C fs : List ℕ) (p q : ℕ) (pe : PredicateEnd code 0 p) (qe :
 
       cinit-fault : code ≡ three_codes d ρ → g ≡ cinit_key d ρ
       cinit-fault e =
-          seen₂.right d.cinit (cinit_at d + 2) ρ (cinit-part code fs bs (drop q code) p q pe qe fs-is bs-is refl d ρ e)
+          seen₂.right d.cinit (cinit_at d + 2) ρ (cinit-part code p pe d ρ e behind q behind-is qe bs bs-is)
           ∙ ap (λ (t : Names). pred_key d.cinit t ρ z (cinit_at d + 2)) with-concrete
 
     pub conditions-second : (g ≡ 0 → ⊥) → (U : Names) → ConditionsSeen code A C T U z g
@@ -231,7 +209,7 @@ module _ (code A C fs : List ℕ) (p q : ℕ) (pe : PredicateEnd code 0 p) (qe :
           named = λ d ρ e v w. elim (not w) [ ];
         }
 
-    pub conditions-third : g ≡ 0 → (cs : List ℕ) → cs ≡ drop q code → (T₆ T₇ T₈ U : Names) (h : ℕ) → ShownSeen A 0 T₅ T₆ → ConditionSeen cs T₆ T₇ z h → HiddenSeen A 0 2 T₇ T₈
+    pub conditions-third : g ≡ 0 → (cs : List ℕ) → cs ≡ drop q behind → (T₆ T₇ T₈ U : Names) (h : ℕ) → ShownSeen A 0 T₅ T₆ → ConditionSeen cs T₆ T₇ z h → HiddenSeen A 0 2 T₇ T₈
         → HiddenSeen C 0 2 T₈ U → ConditionsSeen code A C T U z h
     unfolding conditions_key conditions_named
     conditions-third g-none cs cs-is T₆ T₇ T₈ U h three seen₃ hid₂ hid₃ =
@@ -239,7 +217,7 @@ module _ (code A C fs : List ℕ) (p q : ℕ) (pe : PredicateEnd code 0 p) (qe :
           right =
               λ d ρ e v.
               let t : T₆ ≡ shown (first_of d) 0 (with_concrete d ρ) ρ = three (first_of d) v.i ρ (abstract-variables d ρ v) ∙ ap (λ (t : Names). shown (first_of d) 0 t ρ) (seen₂.kept ∙ with-concrete d ρ v) in
-              seen₃.right d.retrieve (retrieve_at d + 2) ρ (retrieve-part code fs bs cs p q pe qe fs-is bs-is cs-is d ρ e)
+              seen₃.right d.retrieve (retrieve_at d + 2) ρ (retrieve-part code p pe d ρ e behind q behind-is qe cs cs-is)
               ∙ (ap (λ (t : Names). pred_key d.retrieve t ρ z (retrieve_at d + 2)) t
               ∙ (inside-none (cinit-fault d ρ v e) g-none ∙ inside-none (ainit-fault d ρ v e) f-none));
           named =

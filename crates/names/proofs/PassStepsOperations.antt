@@ -2,7 +2,6 @@
 use mathlib.Core.Path.{◌≡◌, refl, ap, ap₂, sym, ◌∙◌}
 use mathlib.Core.List.{List, [], ◌∷◌, ◌++◌, append_assoc}
 use Prim.Native.Nat.{ℕ, suc, ◌+◌, ◌-◌, ◌≤◌, ◌<◌}
-use native.Mathlib.Nat.{zero-add}
 use native.Mathlib.Omega.{arith}
 use Rattle.form.specs.Headings.{operation_length}
 use lib.ListN.{length, take, drop, get_or, set, length-drop, length-append}
@@ -37,10 +36,10 @@ side-seen code vs T T₁ T₂ U z r a c b =
     }
 
 -- the two predicates of an operation
-module _ (code A C fs cs : List ℕ) (n : ℕ) (end : PredicateEnd code 0 n) (fs-is : fs ≡ take n code) (cs-is : cs ≡ drop n code) where
+module _ (code A C fs cs : List ℕ) (n : ℕ) (end : PredicateEnd code n) (fs-is : fs ≡ take n code) (cs-is : cs ≡ drop n code) where
   module _ (p q : Pred) (i j : ℕ) (ρ : Numbering) (e : code ≡ condition_codes i p ρ ++ condition_codes j q ρ) where
     sides-length : n ≡ length (condition_codes i p ρ)
-    sides-length = end.right p i ρ (condition_codes j q ρ) e ∙ zero-add (length (condition_codes i p ρ))
+    sides-length = end.right p i ρ (condition_codes j q ρ) e
 
     sides-front : fs ≡ condition_codes i p ρ
     sides-front = fs-is ∙ front code n (condition_codes i p ρ) (condition_codes j q ρ) e sides-length
@@ -88,32 +87,38 @@ unfolding condition_codes
 no-parameter i p ρ rest e = omega arith
 
 -- where an operation ends
-pub operation-end : (code rest : List ℕ) (at d p r : ℕ) → at + 4 ≤ length code → rest ≡ drop (at + 4) code → DeclaredEnd rest d → PredicateEnd code (at + 4 + d) p → PredicateEnd code p r
-    → OperationEnd code at r
-operation-end code rest at d p r h rest-is de pe re =
+pub operation-end : (code rest both last : List ℕ) (d p r : ℕ) → 4 ≤ length code → rest ≡ drop 4 code → both ≡ drop (4 + d) code → last ≡ drop (4 + d + p) code → DeclaredEnd rest d
+    → PredicateEnd both p → PredicateEnd last r → OperationEnd code (4 + d + p + r)
+operation-end code rest both last d p r h rest-is both-is last-is de pe re =
     record {
-      behind = let x = pe.behind in let y = re.behind in omega arith;
-      within = re.within;
+      behind = omega arith;
+      within = inside (length rest) (length both) (length last) (long rest 4 rest-is) (long both (4 + d) both-is) (long last (4 + d + p) last-is) de.within pe.within re.within;
       right =
           λ o i ρ more e.
           let ps = typed_codes (i + 2) (parameters_in o) ρ in
           let a = abstract_codes i o ρ in
           let c = concrete_codes i o ρ in
-          let e₁ : drop (at + 4) code ≡ ps ++ (a ++ (c ++ more)) = sym (drop-drop 4 at code) ∙ (ap (λ (l : List ℕ). drop 4 l) e ∙ (append_assoc (parameter_codes (i + 2) o.parameters ρ) (a ++ c) more ∙ ap₂ (λ (l m : List ℕ). l ++ m) (sym (parameters-codes (i + 2) o.parameters ρ)) (append_assoc a c more))) in
+          let e₁ : drop 4 code ≡ ps ++ (a ++ (c ++ more)) = ap (λ (l : List ℕ). drop 4 l) e ∙ (append_assoc (parameter_codes (i + 2) o.parameters ρ) (a ++ c) more ∙ ap₂ (λ (l m : List ℕ). l ++ m) (sym (parameters-codes (i + 2) o.parameters ρ)) (append_assoc a c more)) in
           let l₁ : d ≡ length ps = de.right (parameters_in o) (i + 2) ρ (a ++ (c ++ more)) (rest-is ∙ e₁) (no-parameter (abstractly_at i o) o.abstractly ρ (c ++ more)) in
-          let e₂ : drop (at + 4 + d) code ≡ a ++ (c ++ more) = sym (drop-drop d (at + 4) code) ∙ back (drop (at + 4) code) d ps (a ++ (c ++ more)) e₁ l₁ in
-          let l₂ : p ≡ at + 4 + d + length a = pe.right o.abstractly (abstractly_at i o) ρ (c ++ more) e₂ in
-          let e₃ : drop p code ≡ c ++ more = ap (λ (n : ℕ). drop n code) l₂ ∙ (sym (drop-drop (length a) (at + 4 + d) code) ∙ back (drop (at + 4 + d) code) (length a) a (c ++ more) e₂ refl) in
-          let l₃ : r ≡ p + length c = re.right o.concretely (suc (abstractly_at i o) + pred_width o.abstractly) ρ more e₃ in
+          let e₂ : drop (4 + d) code ≡ a ++ (c ++ more) = sym (drop-drop d 4 code) ∙ back (drop 4 code) d ps (a ++ (c ++ more)) e₁ l₁ in
+          let l₂ : p ≡ length a = pe.right o.abstractly (abstractly_at i o) ρ (c ++ more) (both-is ∙ e₂) in
+          let e₃ : drop (4 + d + p) code ≡ c ++ more = sym (drop-drop p (4 + d) code) ∙ back (drop (4 + d) code) p a (c ++ more) e₂ l₂ in
+          let l₃ : r ≡ length c = re.right o.concretely (suc (abstractly_at i o) + pred_width o.abstractly) ρ more (last-is ∙ e₃) in
           let n₁ = length-append (node 8 i (number_of_name ρ o.title no_ending) 0) (parameter_codes (i + 2) o.parameters ρ ++ (a ++ c)) in
           let n₂ = length-append (parameter_codes (i + 2) o.parameters ρ) (a ++ c) in
           let n₃ = length-append a c in
           let n₄ = ap (λ (l : List ℕ). length l) (parameters-codes (i + 2) o.parameters ρ) in
-          lengths at d (length ps) (length (parameter_codes (i + 2) o.parameters ρ)) (length a) (length c) p r (length (parameter_codes (i + 2) o.parameters ρ ++ (a ++ c))) (length (a ++ c)) (length (operation_code i o ρ)) l₁ l₂ l₃ n₁ n₂ n₃ n₄;
+          lengths (length ps) (length (parameter_codes (i + 2) o.parameters ρ)) (length a) (length c) (length (parameter_codes (i + 2) o.parameters ρ ++ (a ++ c))) (length (a ++ c)) (length (operation_code i o ρ)) l₁ l₂ l₃ n₁ n₂ n₃ n₄;
     }
   where
-    lengths : (at d ps qs a c p r m n t : ℕ) → d ≡ ps → p ≡ at + 4 + d + a → r ≡ p + c → t ≡ 4 + m → m ≡ qs + n → n ≡ a + c → ps ≡ qs → r ≡ at + t
-    lengths at d ps qs a c p r m n t e₁ e₂ e₃ e₄ e₅ e₆ e₇ = omega arith
+    long : (l : List ℕ) (n : ℕ) → l ≡ drop n code → length l ≡ length code - n
+    long l n e = ap (λ (m : List ℕ). length m) e ∙ length-drop n code
+
+    inside : (l m n : ℕ) → l ≡ length code - 4 → m ≡ length code - (4 + d) → n ≡ length code - (4 + d + p) → d ≤ l → p ≤ m → r ≤ n → 4 + d + p + r ≤ length code
+    inside l m n e₁ e₂ e₃ h₁ h₂ h₃ = omega arith
+
+    lengths : (ps qs a c m n t : ℕ) → d ≡ ps → p ≡ a → r ≡ c → t ≡ 4 + m → m ≡ qs + n → n ≡ a + c → ps ≡ qs → 4 + d + p + r ≡ t
+    lengths ps qs a c m n t e₁ e₂ e₃ e₄ e₅ e₆ e₇ = omega arith
 
 -- an operation: its title, its parameters, its predicates
 module _ (code A C : List ℕ) (T : Names) (z : Sizes) (x old w f : ℕ) (x-is : x ≡ get_or code 1 0) (old-is : old ≡ entry T x) (w-is : w ≡ get_or code 2 0)
@@ -201,18 +206,18 @@ four-first : (a b : List ℕ) → length a ≡ 4 → 4 ≤ length (a ++ b)
 four-first a b e = let l = length-append a b in omega arith
 
 -- a walk over operations: those that are left have the first fault of all
-pub record Onward (code : List ℕ) (at : ℕ) (U : Names) (z : Sizes) (av cv : List Declaration) (ρ : Numbering) (v : ℕ) : Type 0 where
+pub record Onward (rest : List ℕ) (U : Names) (z : Sizes) (av cv : List Declaration) (ρ : Numbering) (v : ℕ) : Type 0 where
   pub left : List Operation
   pub place : ℕ
-  pub here : drop at code ≡ operation_codes place left ρ
+  pub here : rest ≡ operation_codes place left ρ
   pub same : operations_key left av cv U ρ z place ≡ v
 
-abbrev pub OperationsOn : (code A C : List ℕ) (at : ℕ) (T U : Names) (z : Sizes) → Type 0
-OperationsOn code A C at T U z =
+abbrev pub OperationsOn : (code A C rest : List ℕ) (T U : Names) (z : Sizes) → Type 0
+OperationsOn code A C rest T U z =
     (os : List Operation) (i : ℕ) (av cv : List Declaration) (ρ : Numbering) → code ≡ operation_codes i os ρ → Variables av cv ρ A C
-    → Onward code at U z av cv ρ (operations_key os av cv T ρ z i)
+    → Onward rest U z av cv ρ (operations_key os av cv T ρ z i)
 
-pub onward-start : (code A C : List ℕ) (T : Names) (z : Sizes) → OperationsOn code A C 0 T T z
+pub onward-start : (code A C : List ℕ) (T : Names) (z : Sizes) → OperationsOn code A C code T T z
 onward-start code A C T z os i av cv ρ e v = record { left = os; place = i; here = e; same = refl }
 
 first-operation : (o : Operation) (os : List Operation) (i : ℕ) (ρ : Numbering) → operation_codes i (o ∷ os) ρ ≡ operation_code i o ρ ++ operation_codes (i + operation_length o) os ρ
@@ -229,28 +234,25 @@ no_operation : (i : ℕ) (ρ : Numbering) → length (operation_codes i [] ρ) �
 unfolding operation_codes
 no_operation i ρ = refl
 
-module _ (code A C part : List ℕ) (at n : ℕ) (U U' : Names) (z : Sizes) (f : ℕ) (room : at + 4 ≤ length code) (end : OperationEnd code at n)
-    (part_is : part ≡ take (n - at) (drop at code)) (seen : OperationSeen part A C U U' z f) (av cv : List Declaration) (ρ : Numbering) (vs : Variables av cv ρ A C) (v : ℕ) where
-  none_left : (j : ℕ) → drop at code ≡ operation_codes j [] ρ → ⊥
-  none_left j e = let l : length code - at ≡ 0 = sym (length-drop at code) ∙ (ap (λ (l : List ℕ). length l) e ∙ no_operation j ρ) in omega arith
+module _ (A C rest part behind : List ℕ) (n : ℕ) (U U' : Names) (z : Sizes) (f : ℕ) (room : 4 ≤ length rest) (end : OperationEnd rest n) (part_is : part ≡ take n rest)
+    (behind-is : behind ≡ drop n rest) (seen : OperationSeen part A C U U' z f) (av cv : List Declaration) (ρ : Numbering) (vs : Variables av cv ρ A C) (v : ℕ) where
+  none_left : (j : ℕ) → rest ≡ operation_codes j [] ρ → ⊥
+  none_left j e = let l : length rest ≡ 0 = ap (λ (l : List ℕ). length l) e ∙ no_operation j ρ in omega arith
 
-  module _ (o : Operation) (os : List Operation) (j : ℕ) (e : drop at code ≡ operation_codes j (o ∷ os) ρ) where
-    split : drop at code ≡ operation_code j o ρ ++ operation_codes (j + operation_length o) os ρ
+  module _ (o : Operation) (os : List Operation) (j : ℕ) (e : rest ≡ operation_codes j (o ∷ os) ρ) where
+    split : rest ≡ operation_code j o ρ ++ operation_codes (j + operation_length o) os ρ
     split = e ∙ first-operation o os j ρ
 
-    end-at : n ≡ at + length (operation_code j o ρ)
+    end-at : n ≡ length (operation_code j o ρ)
     end-at = end.right o j ρ (operation_codes (j + operation_length o) os ρ) split
 
     part-first : part ≡ operation_code j o ρ
-    part-first = part_is ∙ front (drop at code) (n - at) (operation_code j o ρ) (operation_codes (j + operation_length o) os ρ) split (let q = end-at in omega arith)
+    part-first = part_is ∙ front rest n (operation_code j o ρ) (operation_codes (j + operation_length o) os ρ) split end-at
 
-    part-behind : drop n code ≡ operation_codes (j + operation_length o) os ρ
-    part-behind =
-        ap (λ (m : ℕ). drop m code) end-at
-        ∙ (sym (drop-drop (length (operation_code j o ρ)) at code)
-        ∙ back (drop at code) (length (operation_code j o ρ)) (operation_code j o ρ) (operation_codes (j + operation_length o) os ρ) split refl)
+    part-behind : behind ≡ operation_codes (j + operation_length o) os ρ
+    part-behind = behind-is ∙ back rest n (operation_code j o ρ) (operation_codes (j + operation_length o) os ρ) split end-at
 
-  onward-step : f ≡ 0 → (os : List Operation) (j : ℕ) → drop at code ≡ operation_codes j os ρ → operations_key os av cv U ρ z j ≡ v → Onward code n U' z av cv ρ v
+  onward-step : f ≡ 0 → (os : List Operation) (j : ℕ) → rest ≡ operation_codes j os ρ → operations_key os av cv U ρ z j ≡ v → Onward behind U' z av cv ρ v
   unfolding operations_key
   onward-step q [] j e s = elim (none_left j e) [ ]
   onward-step q (o ∷ os) j e s =
@@ -265,39 +267,39 @@ module _ (code A C part : List ℕ) (at n : ℕ) (U U' : Names) (z : Sizes) (f :
             ∙ (inside-none d q ∙ s);
       }
 
-  onward-stop : (f ≡ 0 → ⊥) → (os : List Operation) (j : ℕ) → drop at code ≡ operation_codes j os ρ → operations_key os av cv U ρ z j ≡ v → f ≡ v
+  onward-stop : (f ≡ 0 → ⊥) → (os : List Operation) (j : ℕ) → rest ≡ operation_codes j os ρ → operations_key os av cv U ρ z j ≡ v → f ≡ v
   unfolding operations_key
   onward-stop q [] j e s = elim (none_left j e) [ ]
   onward-stop q (o ∷ os) j e s =
       inside-some _ (seen.right o j av cv ρ (part-first o os j e) vs) q ∙ s
 
-onward-end : (code : List ℕ) (at : ℕ) (U : Names) (z : Sizes) (av cv : List Declaration) (ρ : Numbering) (v : ℕ) → length code < at + 4
-    → (os : List Operation) (j : ℕ) → drop at code ≡ operation_codes j os ρ → operations_key os av cv U ρ z j ≡ v → 0 ≡ v
+onward-end : (rest : List ℕ) (U : Names) (z : Sizes) (av cv : List Declaration) (ρ : Numbering) (v : ℕ) → length rest < 4
+    → (os : List Operation) (j : ℕ) → rest ≡ operation_codes j os ρ → operations_key os av cv U ρ z j ≡ v → 0 ≡ v
 unfolding operations_key
-onward-end code at U z av cv ρ v h [] j e s = s
-onward-end code at U z av cv ρ v h (o ∷ os) j e s = elim (long (length (operation_code j o ρ ++ operation_codes (j + operation_length o) os ρ)) all more) [ ]
+onward-end rest U z av cv ρ v h [] j e s = s
+onward-end rest U z av cv ρ v h (o ∷ os) j e s = elim (long (length (operation_code j o ρ ++ operation_codes (j + operation_length o) os ρ)) all more) [ ]
   where
-    long : (n : ℕ) → length code - at ≡ n → 4 ≤ n → ⊥
+    long : (n : ℕ) → length rest ≡ n → 4 ≤ n → ⊥
     long n p q = omega arith
 
-    all : length code - at ≡ length (operation_code j o ρ ++ operation_codes (j + operation_length o) os ρ)
-    all = sym (length-drop at code) ∙ ap (λ (l : List ℕ). length l) (e ∙ first-operation o os j ρ)
+    all : length rest ≡ length (operation_code j o ρ ++ operation_codes (j + operation_length o) os ρ)
+    all = ap (λ (l : List ℕ). length l) (e ∙ first-operation o os j ρ)
 
     more : 4 ≤ length (operation_code j o ρ ++ operation_codes (j + operation_length o) os ρ)
     more = four-first (node 8 j (number_of_name ρ o.title no_ending) 0) ((parameter_codes (j + 2) o.parameters ρ ++ (abstract_codes j o ρ ++ concrete_codes j o ρ)) ++ operation_codes (j + operation_length o) os ρ) refl
 
-pub operations-on : (code A C part : List ℕ) (at n : ℕ) (T U U' : Names) (z : Sizes) (f : ℕ) → at + 4 ≤ length code → OperationEnd code at n → part ≡ take (n - at) (drop at code)
-    → OperationSeen part A C U U' z f → f ≡ 0 → OperationsOn code A C at T U z → OperationsOn code A C n T U' z
-operations-on code A C part at n T U U' z f room end is seen q w os i av cv ρ e v =
+pub operations-on : (code A C rest part behind : List ℕ) (n : ℕ) (T U U' : Names) (z : Sizes) (f : ℕ) → 4 ≤ length rest → OperationEnd rest n → part ≡ take n rest → behind ≡ drop n rest
+    → OperationSeen part A C U U' z f → f ≡ 0 → OperationsOn code A C rest T U z → OperationsOn code A C behind T U' z
+operations-on code A C rest part behind n T U U' z f room end is behind-is seen q w os i av cv ρ e v =
     let r = w os i av cv ρ e v in
-    onward-step code A C part at n U U' z f room end is seen av cv ρ v (operations_key os av cv T ρ z i) q r.left r.place r.here r.same
+    onward-step A C rest part behind n U U' z f room end is behind-is seen av cv ρ v (operations_key os av cv T ρ z i) q r.left r.place r.here r.same
 
-pub operations-stopped : (code A C part : List ℕ) (at n : ℕ) (T U U' : Names) (z : Sizes) (f : ℕ) → at + 4 ≤ length code → OperationEnd code at n → part ≡ take (n - at) (drop at code)
-    → OperationSeen part A C U U' z f → (f ≡ 0 → ⊥) → OperationsOn code A C at T U z → OperationsSeen code A C T z f
-operations-stopped code A C part at n T U U' z f room end is seen q w os i av cv ρ e v =
+pub operations-stopped : (code A C rest part : List ℕ) (n : ℕ) (T U U' : Names) (z : Sizes) (f : ℕ) → 4 ≤ length rest → OperationEnd rest n → part ≡ take n rest
+    → OperationSeen part A C U U' z f → (f ≡ 0 → ⊥) → OperationsOn code A C rest T U z → OperationsSeen code A C T z f
+operations-stopped code A C rest part n T U U' z f room end is seen q w os i av cv ρ e v =
     let r = w os i av cv ρ e v in
-    onward-stop code A C part at n U U' z f room end is seen av cv ρ v (operations_key os av cv T ρ z i) q r.left r.place r.here r.same
+    onward-stop A C rest part (drop n rest) n U U' z f room end is refl seen av cv ρ v (operations_key os av cv T ρ z i) q r.left r.place r.here r.same
 
-pub operations-ended : (code A C : List ℕ) (at : ℕ) (T U : Names) (z : Sizes) → length code < at + 4 → OperationsOn code A C at T U z → OperationsSeen code A C T z 0
-operations-ended code A C at T U z h w os i av cv ρ e v =
-    let r = w os i av cv ρ e v in onward-end code at U z av cv ρ (operations_key os av cv T ρ z i) h r.left r.place r.here r.same
+pub operations-ended : (code A C rest : List ℕ) (T U : Names) (z : Sizes) → length rest < 4 → OperationsOn code A C rest T U z → OperationsSeen code A C T z 0
+operations-ended code A C rest T U z h w os i av cv ρ e v =
+    let r = w os i av cv ρ e v in onward-end rest U z av cv ρ (operations_key os av cv T ρ z i) h r.left r.place r.here r.same

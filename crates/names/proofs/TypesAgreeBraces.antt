@@ -1,6 +1,6 @@
 -- The items of a brace, and its pairs: what their numbers have in common, and whether their types fit.
 use mathlib.Core.Path.{◌≡◌, refl, ap, ap₂, ◌∙◌, sym}
-use mathlib.Core.Bool.{Bool, true, false, ◌&&◌, cond, and-true, and-false}
+use mathlib.Core.Bool.{Bool, true, false, ◌&&◌, cond, and-true, and-false, false≢true}
 use mathlib.Core.List.{List, [], ◌∷◌}
 use mathlib.Core.Option.{some}
 use Prim.Native.Nat.{ℕ, ◌+◌, ◌-◌, ◌*◌, ◌≤◌}
@@ -14,7 +14,7 @@ use Rattle.declared_names.specs.StaticRulesTypes as ty
 use Rattle.declared_names.specs.StaticRulesTypes.{Ty, has, same_over_type, same_type, brace_type, brace_fits, pairs_type, pairs_fit}
 use Rattle.type_rules.specs.TypesByNumber.{is_element, set_of, pair_of, shared}
 use Rattle.names.proofs.ReachTables.{index_of, titled, type_code, Known, TypeIs}
-use Rattle.names.proofs.TypesAgreeTypes.{no-yes, and_true, ElementType, element_type, element-type, code-positive, is-element, same-types, two-givens, set-type}
+use Rattle.names.proofs.TypesAgreeTypes.{and_true, ElementType, element_type, element-type, code-positive, is-element, same-types, two-givens, set-type}
 use Rattle.declared_names.proofs.StaticRulesSameTypes.{same-type}
 use Rattle.std.proofs.lemmas.Bool.{and_parts}
 
@@ -35,10 +35,10 @@ step true q true d e x y h same_number same-sort same_rest = on q refl x y (same
   where
     on : (c : Bool) → q ≡ c → (x y : Bool) → x ≡ y → shared d (cond (c && y) e 0) ≡ cond x d 0
     on true r true true k = rw (same_number refl r)
-    on true r true false k = no-yes (sym k)
-    on true r false true k = no-yes k
+    on true r true false k = absurd (false≢true (sym k))
+    on true r false true k = absurd (false≢true k)
     on true r false false k = shared-zero d h
-    on false r x y k = no-yes (sym r ∙ sym (same-sort refl))
+    on false r x y k = absurd (false≢true (sym r ∙ sym (same-sort refl)))
 step true q false d e x y h same_number same-sort same_rest = on q refl y
   where
     on : (c : Bool) → q ≡ c → (y : Bool) → shared d (cond (c && y) e 0) ≡ 0

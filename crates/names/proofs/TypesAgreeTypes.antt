@@ -19,14 +19,11 @@ use Rattle.names.proofs.ReachTables.{index_of, titled, type_code, Known, known_n
 use Rattle.names.proofs.TypesAgreeRanges.{both}
 use Rattle.std.proofs.lemmas.Bool.{and_parts}
 
-pub no-yes : {A : Type 0} → false ≡ true → A
-no-yes e = absurd (false≢true e)
-
 -- ---- given sets by their index ----
 
 pub index_in : (gs : List Given) (x : Letters) → titled gs x ≡ true → index_of gs x < length gs
 unfolding index_of any
-index_in [] x h = no-yes h
+index_in [] x h = absurd (false≢true h)
 index_in (g ∷ gs) x h = on (same g.title x) (index_in gs x) h
   where
     on : (b : Bool) → (titled gs x ≡ true → index_of gs x < length gs) → ◌≡◌ {A = Bool} (elim b [ true ↦ true | false ↦ titled gs x ]) true
@@ -37,7 +34,7 @@ index_in (g ∷ gs) x h = on (same g.title x) (index_in gs x) h
 -- given sets with one index are one
 pub index_same : (gs : List Given) (x y : Letters) → titled gs x ≡ true → titled gs y ≡ true → index_of gs x ≡ index_of gs y → x ≡ y
 unfolding index_of any
-index_same [] x y h k e = no-yes h
+index_same [] x y h k e = absurd (false≢true h)
 index_same (g ∷ gs) x y h k e = on (same g.title x) refl (same g.title y) refl (index_same gs x y) h k e
   where
     on : (b : Bool) → same g.title x ≡ b → (c : Bool) → same g.title y ≡ c
@@ -77,10 +74,10 @@ pub data ElementType (gs : List Given) : Ty → Type 0 where
 
 pub element-type : {gs : List Given} {t : Ty} → Known gs t → has t ty.is_element ≡ true → ElementType gs t
 unfolding has
-element-type known_number e = no-yes e
+element-type known_number e = absurd (false≢true e)
 element-type (known_element {g = g} h) e = element_type g h
-element-type (known_set h) e = no-yes e
-element-type (known_pairs h k) e = no-yes e
+element-type (known_set h) e = absurd (false≢true e)
+element-type (known_pairs h k) e = absurd (false≢true e)
 
 module _ (gs : List Given) (few : length gs ≤ 8) where
   pub index-few : (g : Letters) → titled gs g ≡ true → index_of gs g < 8
@@ -145,7 +142,7 @@ module _ (gs : List Given) (few : length gs ≤ 8) where
       on true e = eq-eqb (c + index_of gs g) (c + index_of gs h) (ap (λ (x : Letters). c + index_of gs x) (same_true g h e))
       on false e =
           ne_eqb (c + index_of gs g) (c + index_of gs h)
-          (λ k. no-yes (sym e ∙ ap (λ (x : Letters). same g x) (sym (index_same gs g h p q (omega arith))) ∙ same_refl g))
+          (λ k. absurd (false≢true (sym e ∙ ap (λ (x : Letters). same g x) (sym (index_same gs g h p q (omega arith))) ∙ same_refl g)))
 
   pub two-givens : (g h x y : Letters) → titled gs g ≡ true → titled gs h ≡ true → titled gs x ≡ true → titled gs y ≡ true
       → eqb (64 + 8 * index_of gs g + index_of gs h) (64 + 8 * index_of gs x + index_of gs y) ≡ (same g x && (same h y && true))
@@ -246,16 +243,16 @@ module _ (gs : List Given) (few : length gs ≤ 8) where
 
   dom-type : {t : Ty} → Known gs t → has t ty.is_pairs ≡ true → TypeIs gs (some (ty.dom_of t)) (dom_of (type_code gs t))
   unfolding has
-  dom-type known_number e = no-yes e
-  dom-type (known_element h) e = no-yes e
-  dom-type (known_set h) e = no-yes e
+  dom-type known_number e = absurd (false≢true e)
+  dom-type (known_element h) e = absurd (false≢true e)
+  dom-type (known_set h) e = absurd (false≢true e)
   dom-type (known_pairs {g = g} {h = h} p q) e = (dom-of g h q, known_set p)
 
   ran-type : {t : Ty} → Known gs t → has t ty.is_pairs ≡ true → TypeIs gs (some (ty.ran_of t)) (ran_of (type_code gs t))
   unfolding has
-  ran-type known_number e = no-yes e
-  ran-type (known_element h) e = no-yes e
-  ran-type (known_set h) e = no-yes e
+  ran-type known_number e = absurd (false≢true e)
+  ran-type (known_element h) e = absurd (false≢true e)
+  ran-type (known_set h) e = absurd (false≢true e)
   ran-type (known_pairs {g = g} {h = h} p q) e = (ran-of g h q, known_set q)
 
   pub prefix-type : {t : Ty} (o : Prefix) → Known gs t → ty.prefix_fits o t ≡ true → TypeIs gs (some (ty.prefix_type o t)) (inner.prefix_type o (type_code gs t))

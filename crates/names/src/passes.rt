@@ -1,41 +1,40 @@
 // The parts of a dossier, in the order of the text: the first fault is the least.
 // Form 5: names are written and sizes are read: a struct of both would be lent to be written to each of the seven functions here that take them, and each would
 // promise besides that the sizes stay.
-ghost use Rattle.std.specs.Prelude.{◌+◌, ◌*◌, ◌≤◌, length};
+ghost use Rattle.std.specs.Prelude.{◌≤◌, length};
 ghost use Rattle.type_rules.specs.Passes.{refused_key};
 ghost use Rattle.declared_names.specs.PassPromises.{DeclaredEnd, PredicateEnd, OperationEnd, ConditionSeen, StateSeen, SideSeen, SidesSeen, OperationSeen, OperationsSeen, ConditionsSeen, VariablesOf};
 
 use declared_names::declared::{declare, hide, show};
 use form::name_endings::{PLAIN, PRIMED};
 use form::{node, shapes};
-use parser::sections::States;
+use parser::sections::{Nodes, States};
 use refusals::{Fault, Refusal};
 use type_rules::entries;
 use type_rules::entries::Kind;
-use type_rules::kinds::{all_well, entry, look, put, unless};
+use type_rules::kinds::{all_well, entry, put, unless};
 use typing::types::pred;
 
 // How many numbers declarations have at the beginning of some nodes.
-// Form 2: `run` of `parser::sections` goes over such nodes too, but promises a `Run` by their numbers (`RunsTo`), not the end of declarations as trees (`DeclaredEnd`):
-// a law from the one to the other would be needed besides.
 fn declared_end(code: &[u16]) -> usize
     ensures { DeclaredEnd code.now result }
 {
-    let declared = code
-        .chunks_exact(node::DECLARATION)
-        .take_while(|d| look(d, node::SHAPE) == shapes::DECLARED);
-    declared.count() * node::DECLARATION
+    let nodes = Nodes {
+        numbers: code,
+        end: code.len(),
+    };
+    nodes.run(0, shapes::DECLARED, shapes::DECLARED)
 }
 
-// The end of a predicate whose node stands at a place, or of all nodes.
-// Form 2: `skip` of `parser::sections` goes over such a node too, but promises its size by shape and count (`Skips`), not the end of a predicate as a tree
-// (`PredicateEnd`): a law from the one to the other would be needed besides.
-fn predicate_end(code: &[u16], at: usize) -> usize
-    requires { at ≤ length code.now }
-    ensures { PredicateEnd code.now at result }
+// How many numbers a predicate has at the beginning of some nodes.
+fn predicate_end(code: &[u16]) -> usize
+    ensures { PredicateEnd code.now result }
 {
-    let n = usize::from(look(code, at + node::A));
-    (at + node::SIZE + n).min(code.len())
+    let nodes = Nodes {
+        numbers: code,
+        end: code.len(),
+    };
+    nodes.skip(0)
 }
 
 // A predicate with its node in front.
@@ -77,7 +76,7 @@ fn side(code: &[u16], variables: &[u16], names: &mut [Kind], sizes: &[u16]) -> R
 fn sides(code: &[u16], states: &States<'_>, names: &mut [Kind], sizes: &[u16]) -> Result<(), Fault>
     ensures { SidesSeen code.now states.now.abstracts.now states.now.concretes.now names.old names.new sizes.now (refused_key result) }
 {
-    let (first, second) = code.split_at(predicate_end(code, 0));
+    let (first, second) = code.split_at(predicate_end(code));
     side(first, states.abstracts, names, sizes)?;
     side(second, states.concretes, names, sizes)
 }
@@ -110,16 +109,14 @@ fn operation(
     h
 }
 
-// Where the operation that begins at a place ends.
-fn operation_end(code: &[u16], at: usize) -> usize
-    requires { at + 4 ≤ length code.now }
-    ensures { OperationEnd code.now at result }
+// How many numbers an operation has at the beginning of some nodes.
+fn operation_end(code: &[u16]) -> usize
+    requires { 4 ≤ length code.now }
+    ensures { OperationEnd code.now result }
 {
-    let b = at + node::SIZE;
-    let rest = &code[b..];
-    let e = b + declared_end(rest);
-    let p = predicate_end(code, e);
-    predicate_end(code, p)
+    let e = node::SIZE + declared_end(&code[node::SIZE..]);
+    let p = e + predicate_end(&code[e..]);
+    p + predicate_end(&code[p..])
 }
 
 // Form 3: how long an operation is, `operation_end` answers; an iterator of them would be a type with laws of its own for this one walk.
@@ -131,11 +128,11 @@ pub(crate) fn operations(
 ) -> Result<(), Fault>
     ensures { OperationsSeen code.now states.now.abstracts.now states.now.concretes.now names.old sizes.now (refused_key result) }
 {
-    let mut at: usize = 0;
-    while node::SIZE <= code.len() - at {
-        let e = operation_end(code, at);
-        operation(&code[at..e], states, names, sizes)?;
-        at = e;
+    let mut rest = code;
+    while node::SIZE <= rest.len() {
+        let (one, behind) = rest.split_at(operation_end(rest));
+        operation(one, states, names, sizes)?;
+        rest = behind;
     }
     Ok(())
 }
@@ -150,15 +147,15 @@ pub(crate) fn conditions(
 ) -> Result<(), Fault>
     ensures { ConditionsSeen code.now states.now.abstracts.now states.now.concretes.now names.old names.new sizes.now (refused_key result) }
 {
-    let p = predicate_end(code, 0);
-    let q = predicate_end(code, p);
+    let (ainit, behind) = code.split_at(predicate_end(code));
+    let (cinit, retrieve) = behind.split_at(predicate_end(behind));
     show(states.abstracts, PLAIN, names);
-    condition(&code[..p], names, sizes)?;
+    condition(ainit, names, sizes)?;
     hide(states.abstracts, PLAIN, entries::USED, names);
     show(states.concretes, PLAIN, names);
-    condition(&code[p..q], names, sizes)?;
+    condition(cinit, names, sizes)?;
     show(states.abstracts, PLAIN, names);
-    let h = condition(&code[q..], names, sizes);
+    let h = condition(retrieve, names, sizes);
     hide(states.abstracts, PLAIN, entries::USED, names);
     hide(states.concretes, PLAIN, entries::USED, names);
     h

@@ -8,7 +8,7 @@
 
 ghost use Rattle.std.specs.Prelude.{◌≤◌};
 ghost use Rattle.nest_steps.specs.PartTests.{places};
-ghost use Rattle.nest_steps.specs.NestPromises.{NestAsked};
+ghost use Rattle.nest_steps.specs.NestPromises.{NestLent};
 ghost use Rattle.nest.specs.SweepPromises.{SweepAnswers};
 
 use idle_variables::keys::{KEYS, is_within, make_mark};
@@ -29,7 +29,7 @@ pub fn sweep(
     slots: &mut [[i64; 64]; 2],
 ) -> Option<usize>
     requires from_le_end { (from ≤ end) × (end ≤ places s.now.part) }
-    requires nest_asked { NestAsked s.now.table.now s.now.plan.now s.now.cells.now s.now.part slots.old }
+    requires nest_asked { NestLent s.now slots.old }
     ensures { SweepAnswers s.now.table.now s.now.plan.now s.now.cells.now s.now.part from end result }
 {
     let p = &s.part;

@@ -7,6 +7,7 @@ use Rattle.points.specs.Points.{Point, span, number_of, placed, Tame, Shows, Bes
 use Rattle.points.specs.Searches.{levels_hold, Sought, SearchOf}
 use Rattle.slot_carriers.specs.declared.groups.GroupSize.{GroupSize}
 use Rattle.plans.specs.declared.Part.{Part}
+use Rattle.plans.specs.declared.PartSearch.{PartSearch}
 use Rattle.plans.specs.declared.Conclusion.{Conclusion}
 use Rattle.plans.specs.declared.Conclusion.TheVariants.{OfState, OfStep}
 use Rattle.nest_steps.specs.PartTests.{PartTests}
@@ -85,6 +86,10 @@ pub record NestAsked (table plan cells : List ℕ) (p : Part) (before : List (Li
   pub point : Point
   pub nest : Nest table plan cells p groups tests
   pub shows : Shows cells point before
+
+-- of what a function is lent: the arrays of the search, and the slots
+abbrev pub NestLent : PartSearch → (before : List (List ℤ)) → Type 0
+NestLent s before = NestAsked s.table.now s.plan.now s.cells.now s.part before
 
 -- the arrays behind a search of a group: what is found stands there, other groups are as they were
 pub record Stepped (cells : List ℕ) (ss : List ℕ) (δ : Point) (end at : ℕ) (after : List (List ℤ)) : Type 0 where

@@ -3,7 +3,7 @@
 ghost use Rattle.std.specs.Prelude.{◌≡◌, ◌+◌, ◌<◌, ◌≤◌};
 ghost use Rattle.idle_variables.specs.KeyPromises.{key_in, KeyAsked};
 ghost use Rattle.memo.specs.MemoPromises.{Memo};
-ghost use Rattle.nest_steps.specs.NestPromises.{NestAsked};
+ghost use Rattle.nest_steps.specs.NestPromises.{NestLent};
 ghost use Rattle.nest_steps.specs.OpenBlocks.{MasksAsked, MasksAnswers, pair_group, concrete_group, whole_group, PairsSeen, WholesSeen, OpenConcrete, OpenAbstract};
 
 use crate::candidates::{next_abstract, next_concrete};
@@ -101,7 +101,7 @@ pub fn next_open_concrete(
     seen: &[u16; KEYS],
 ) -> usize
     requires c_le_nc { c ≤ s.now.part.concretes.bindings }
-    requires nest_asked { NestAsked s.now.table.now s.now.plan.now s.now.cells.now s.now.part slots.old }
+    requires nest_asked { NestLent s.now slots.old }
     requires memo { Memo s.now.table.now memo.old }
     requires pairs_seen { PairsSeen s.now.table.now s.now.plan.now s.now.cells.now s.now.part m seen.now }
     ensures answers { OpenConcrete s.now.table.now s.now.plan.now s.now.cells.now s.now.part m mark c slots.old slots.new result }
@@ -132,7 +132,7 @@ pub fn next_open_abstract(
     done: &[u16; KEYS],
 ) -> usize
     requires a_le_na { a ≤ s.now.part.abstracts.bindings }
-    requires nest_asked { NestAsked s.now.table.now s.now.plan.now s.now.cells.now s.now.part slots.old }
+    requires nest_asked { NestLent s.now slots.old }
     requires memo { Memo s.now.table.now memo.old }
     requires wholes_seen { WholesSeen s.now.table.now s.now.plan.now s.now.cells.now s.now.part m done.now }
     ensures answers { OpenAbstract s.now.table.now s.now.plan.now s.now.cells.now s.now.part a slots.old slots.new result }

@@ -5,7 +5,7 @@
 // number of the search would promise that by cases.
 ghost use Rattle.std.specs.Prelude.{◌≤◌};
 ghost use Rattle.memo.specs.MemoPromises.{Memo};
-ghost use Rattle.nest_steps.specs.NestPromises.{NestAsked, AbstractAnswers, ConcreteAnswers, OutputAnswers, AfterAnswers};
+ghost use Rattle.nest_steps.specs.NestPromises.{NestLent, AbstractAnswers, ConcreteAnswers, OutputAnswers, AfterAnswers};
 
 use plans::PartSearch;
 use points::plan::{RELATED, STATES, STEPS};
@@ -20,7 +20,7 @@ pub(crate) fn next_abstract(
     memo: &mut [u64; memo::NUMBERS],
 ) -> usize
     requires a_le_na { a ≤ s.now.part.abstracts.bindings }
-    requires nest_asked { NestAsked s.now.table.now s.now.plan.now s.now.cells.now s.now.part slots.old }
+    requires nest_asked { NestLent s.now slots.old }
     requires memo { Memo s.now.table.now memo.old }
     ensures answers { AbstractAnswers s.now.table.now s.now.plan.now s.now.cells.now s.now.part a slots.old slots.new result }
     ensures remembers { Memo s.now.table.now memo.new }
@@ -42,7 +42,7 @@ pub(crate) fn next_concrete(
     memo: &mut [u64; memo::NUMBERS],
 ) -> usize
     requires c_le_nc { c ≤ s.now.part.concretes.bindings }
-    requires nest_asked { NestAsked s.now.table.now s.now.plan.now s.now.cells.now s.now.part slots.old }
+    requires nest_asked { NestLent s.now slots.old }
     requires memo { Memo s.now.table.now memo.old }
     ensures answers { ConcreteAnswers s.now.table.now s.now.plan.now s.now.cells.now s.now.part c slots.old slots.new result }
     ensures remembers { Memo s.now.table.now memo.new }
@@ -64,7 +64,7 @@ pub fn next_output(
     memo: &mut [u64; memo::NUMBERS],
 ) -> usize
     requires o_le_nq { o ≤ s.now.part.outputs.bindings }
-    requires nest_asked { NestAsked s.now.table.now s.now.plan.now s.now.cells.now s.now.part slots.old }
+    requires nest_asked { NestLent s.now slots.old }
     requires memo { Memo s.now.table.now memo.old }
     ensures answers { OutputAnswers s.now.table.now s.now.plan.now s.now.cells.now s.now.part o slots.old slots.new result }
     ensures remembers { Memo s.now.table.now memo.new }
@@ -86,7 +86,7 @@ pub fn next_after(
     memo: &mut [u64; memo::NUMBERS],
 ) -> usize
     requires k_le_nk { k ≤ s.now.part.primes.bindings }
-    requires nest_asked { NestAsked s.now.table.now s.now.plan.now s.now.cells.now s.now.part slots.old }
+    requires nest_asked { NestLent s.now slots.old }
     requires memo { Memo s.now.table.now memo.old }
     ensures answers { AfterAnswers s.now.table.now s.now.plan.now s.now.cells.now s.now.part k slots.old slots.new result }
     ensures remembers { Memo s.now.table.now memo.new }

@@ -1,16 +1,17 @@
 // The steps of the nest: the inputs at which the abstract precondition holds, the next of them, and whether a binding passes; in modules the next candidate of each group, the conclusions
 // that are known to be true, and the blocks that pass alike.
-// Form 5: `NestAsked` and `Memo` relate the slots and the memory, which are written, to the search, which is read. In a struct of all three with both as its invariant, each of the ten
+// Form 5: `NestLent` and `Memo` relate the slots and the memory, which are written, to the search, which is read. In a struct of all three with both as its invariant, each of the ten
 // functions that ask them would promise instead that it leaves the search, and `nest::sweep`, which lends the slots twelve times and the memory ten times, would say in the invariants of its
-// five loops that the search of the struct is still its own. A struct of slots and memory alone can have neither as its invariant: both name arrays of the search. The bound of a candidate is
-// a size of the search's part: a type of numbers with that as its invariant would have to hold it beside each number.
+// five loops that the search of the struct is still its own. A struct of slots and memory alone can have neither as its invariant: both name arrays of the search. The bound of a candidate,
+// or of a binding of the inputs, is a size of the search's part: a type of numbers with that as its invariant would have to hold it beside each number. That a mask has room for n bits
+// (`n ≤ 64`, of `next_bit`): as at `points::masks::mask_of`.
 #![tactic(auto)]
 
 ghost use Rattle.std.specs.Prelude.{◌<◌, ◌≤◌};
 ghost use Rattle.sets.specs.Sets.{has};
 ghost use Rattle.memo.specs.MemoPromises.{Memo};
 ghost use Rattle.points.specs.Searches.{Sought};
-ghost use Rattle.nest_steps.specs.NestPromises.{NestAsked, AbstractPreAnswers, PreAnswers, ReadyAnswers, InputAsked, InputsBound, InputAnswers, MetAnswers};
+ghost use Rattle.nest_steps.specs.NestPromises.{NestLent, AbstractPreAnswers, PreAnswers, ReadyAnswers, InputAsked, InputsBound, InputAnswers, MetAnswers};
 ghost use Rattle.nest_steps.specs.Remembering.{Remembered, BindingAsked, AgainAnswers};
 
 use crate::known::{KNOWN, Numbers, is_known, key_of, mark_of, remember};
@@ -32,7 +33,7 @@ fn abstract_pre(
     slots: &mut [[i64; SLOTS]; 2],
     memo: &mut [u64; memo::NUMBERS],
 ) -> bool
-    requires nest_asked { NestAsked s.now.table.now s.now.plan.now s.now.cells.now s.now.part slots.old }
+    requires nest_asked { NestLent s.now slots.old }
     requires memo { Memo s.now.table.now memo.old }
     ensures answers { AbstractPreAnswers s.now.table.now s.now.plan.now s.now.cells.now s.now.part slots.old slots.new result }
     ensures remembers { Memo s.now.table.now memo.new }
@@ -53,7 +54,7 @@ fn passes(
     slots: &mut [[i64; SLOTS]; 2],
     memo: &mut [u64; memo::NUMBERS],
 ) -> bool
-    requires nest_asked { NestAsked s.now.table.now s.now.plan.now s.now.cells.now s.now.part slots.old }
+    requires nest_asked { NestLent s.now slots.old }
     requires memo { Memo s.now.table.now memo.old }
     ensures answers { MetAnswers s.now.table.now s.now.plan.now s.now.cells.now s.now.part slots.old slots.new result }
     ensures remembers { Memo s.now.table.now memo.new }
@@ -110,7 +111,7 @@ fn pre_at(
     memo: &mut [u64; memo::NUMBERS],
 ) -> bool
     requires i_lt_ni { i < s.now.part.inputs.bindings }
-    requires nest_asked { NestAsked s.now.table.now s.now.plan.now s.now.cells.now s.now.part slots.old }
+    requires nest_asked { NestLent s.now slots.old }
     requires memo { Memo s.now.table.now memo.old }
     ensures answers { PreAnswers s.now.table.now s.now.plan.now s.now.cells.now s.now.part i slots.old slots.new result }
     ensures remembers { Memo s.now.table.now memo.new }
@@ -127,7 +128,7 @@ pub fn ready(
     slots: &mut [[i64; SLOTS]; 2],
     memo: &mut [u64; memo::NUMBERS],
 ) -> u64
-    requires nest_asked { NestAsked s.now.table.now s.now.plan.now s.now.cells.now s.now.part slots.old }
+    requires nest_asked { NestLent s.now slots.old }
     requires memo { Memo s.now.table.now memo.old }
     ensures answers { ReadyAnswers s.now.table.now s.now.plan.now s.now.cells.now s.now.part slots.old slots.new result }
     ensures remembers { Memo s.now.table.now memo.new }

@@ -3,7 +3,9 @@ use mathlib.Core.Path.{◌≡◌, refl, sym, subst}
 use mathlib.Core.List.{List, [], ◌∷◌, ◌++◌, append_assoc}
 use Prim.Native.Nat.{ℕ, suc, ◌+◌, ◌≤◌}
 use native.Mathlib.Omega.{arith}
-use lib.ListN.{length, take}
+use lib.ListN.{length, take, drop, length-drop}
+use lib.Seq.{length-take-le}
+use borrow.Rule.Slice.PartMut.{put_mid}
 use Rattle.form.specs.Tree.{declarations, State, Operation, Dossier}
 use Rattle.form.specs.Headings.{abstract_at, concrete_at, operations_at, operation_length}
 use Rattle.form.specs.Codes.{node, Numbering, number_of_name, declaration_codes, parameter_codes, condition_codes, state_codes, operation_codes, abstractly_at, pred_width, dossier_codes}
@@ -14,6 +16,7 @@ use Rattle.parser.proofs.ItemNodes.{Split, split-next, split-as, split-length, s
 use Rattle.parser.proofs.PartPlaces.{from_concrete, from_ainit, at-abstract, at-operations, Laid, laid, of_array}
 use Rattle.node_spans.specs.Spans.{operation_spans, spans_of, predicate_at, Spanned}
 use Rattle.node_spans.specs.SpanPromises.{Filled, Three, Declared, StatePut, OperationsIn, no_operation, an_operation, Ahead, OperationsPut}
+use Rattle.node_spans.proofs.SpanWrites.{part-fills}
 use Rattle.node_spans.proofs.Structure.{at-concrete}
 
 -- a state's heading and its declarations
@@ -75,13 +78,18 @@ parts-nodes d ρ =
       operations = operations_in (operations_from d ρ) (operations_at d) d.operations ρ (at-operations d ρ);
     }
 
+-- a part of three numbers
+cut : (n : ℕ) (s : List ℕ) → length s ≡ 80 → n + 3 ≤ 80 → length (take 3 (drop n s)) ≡ 3
+cut n s l h = length-take-le 3 (drop n s) (omega (arith, length-drop n s))
+
 -- what the five functions wrote, one behind the other, is what the spans of the dossier are
-pub spanned : {a : List ℕ} {m : ℕ} {s₀ s₁ s₂ s₃ s₄ : List ℕ} {r : ℕ} (x : Bounds)
+pub spanned : {a : List ℕ} {m : ℕ} {s₀ s₁ s₂ s₃ s₄ p₁ p₂ p₃ : List ℕ} {r : ℕ} (x : Bounds)
     → ((d : Dossier) (ρ : Numbering) → m ≤ length a → take m a ≡ dossier_codes d ρ → SectionsOf d ρ x)
-    → StatePut (take m a) m x.abstracts x.concretes 0 s₀ s₁ → StatePut (take m a) m x.concretes x.ainit 3 s₁ s₂
-    → Three 6 x.cinit x.retrieve x.operations s₂ s₃ → OperationsPut (take m a) m x.operations s₃ s₄ r → Spanned a m s₀ s₄ r
+    → StatePut (take m a) m x.abstracts x.concretes (take 3 (drop 0 s₀)) p₁ → StatePut (take m a) m x.concretes x.ainit (take 3 (drop 3 s₁)) p₂
+    → Three x.cinit x.retrieve x.operations (take 3 (drop 6 s₂)) p₃ → OperationsPut (take m a) m x.operations s₃ s₄ r
+    → s₁ ≡ put_mid 0 3 s₀ p₁ → s₂ ≡ put_mid 3 3 s₁ p₂ → s₃ ≡ put_mid 6 3 s₂ p₃ → length s₀ ≡ 80 → length s₁ ≡ 80 → length s₂ ≡ 80 → Spanned a m s₀ s₄ r
 unfolding spans_of
-spanned {a} {m} {s₀} {s₁} {s₂} {s₃} {s₄} {r} x y p q t o =
+spanned {a} {m} {s₀} {s₁} {s₂} {s₃} {s₄} {p₁} {p₂} {p₃} {r} x y p q t o w₁ w₂ w₃ n₁ n₂ n₃ =
     record {
       few = o.few;
       exact =
@@ -108,9 +116,11 @@ spanned {a} {m} {s₀} {s₁} {s₂} {s₃} {s₄} {r} x y p q t o =
           let W : List ℕ = a₁ ∷ a₂ ∷ x.concretes ∷ c₁ ∷ c₂ ∷ x.ainit ∷ x.cinit ∷ x.retrieve ∷ x.operations ∷ [] in
           let S : List ℕ = operation_spans (operations_from d ρ) (operations_at d) d.operations ρ in
           let f₁ : Filled s₀ s₁ Y =
-          p.fills s₀ [] a₁ a₂ h (omega arith) refl (subst (λ (i : ℕ). Declared (take m a) m i a₁ a₂) (sym X.abstracts) Q.abstract) (record { filled = refl }) in
-          let f₂ : Filled s₀ s₂ Z = q.fills s₀ Y c₁ c₂ h (omega arith) refl (subst (λ (i : ℕ). Declared (take m a) m i c₁ c₂) (sym e₁) Q.concrete) f₁ in
-          let f₃ : Filled s₀ s₃ W = t.fills s₀ Z (omega arith) (omega arith) (omega arith) refl f₂ in
+          part-fills w₁ (cut 0 s₀ n₁ (omega arith)) s₀ [] Y refl refl (record { filled = refl }) (p.fills a₁ a₂ h (omega arith) (subst (λ (i : ℕ). Declared (take m a) m i a₁ a₂) (sym X.abstracts) Q.abstract)) in
+          let f₂ : Filled s₀ s₂ Z =
+          part-fills w₂ (cut 3 s₁ n₂ (omega arith)) s₀ Y (c₁ ∷ c₂ ∷ x.ainit ∷ []) refl refl f₁ (q.fills c₁ c₂ h (omega arith) (subst (λ (i : ℕ). Declared (take m a) m i c₁ c₂) (sym e₁) Q.concrete)) in
+          let f₃ : Filled s₀ s₃ W =
+          part-fills w₃ (cut 6 s₂ n₃ (omega arith)) s₀ Z (x.cinit ∷ x.retrieve ∷ x.operations ∷ []) refl refl f₂ (t.fills (omega arith) (omega arith) (omega arith)) in
           let g : Ahead (take m a) m x.operations 0 s₃ s₀ (W ++ S) (length d.operations) =
           record {
             front = W;

@@ -1,3 +1,4 @@
+pub mod StateSpans
 pub mod Spans
 pub mod SpanPromises
 -- what crates above name of crates below

@@ -11,9 +11,10 @@ pub record NumberPut (k n : ℕ) (s s' : List ℕ) : Type 0 where
   pub same : length s' ≡ length s
   pub puts : n ≤ 65535 → s' ≡ set s k n
 
-pub record Three (n x y z : ℕ) (s s' : List ℕ) : Type 0 where
+-- three numbers in front
+pub record Three (x y z : ℕ) (s s' : List ℕ) : Type 0 where
   pub same : length s' ≡ length s
-  pub fills : (s₀ w : List ℕ) → x ≤ 65535 → y ≤ 65535 → z ≤ 65535 → n ≡ length w → Filled s₀ s w → Filled s₀ s' (w ++ (x ∷ y ∷ z ∷ []))
+  pub fills : x ≤ 65535 → y ≤ 65535 → z ≤ 65535 → Filled s s' (x ∷ y ∷ z ∷ [])
 
 -- a heading from i up to a, and then declarations up to b
 pub record Declared (t : List ℕ) (m i a b : ℕ) : Type 0 where
@@ -25,15 +26,15 @@ pub record OperationIn (t : List ℕ) (m i a b e f : ℕ) : Type 0 where
   pub abstractly : ItemAt t m b e
   pub concretely : ItemAt t m e f
 
-pub record StatePut (t : List ℕ) (m from to n : ℕ) (s s' : List ℕ) : Type 0 where
+-- those of a state, and those of an operation, in front of a part that is lent for them
+pub record StatePut (t : List ℕ) (m from to : ℕ) (s s' : List ℕ) : Type 0 where
   pub same : length s' ≡ length s
-  pub fills : (s₀ w : List ℕ) (a b : ℕ) → m ≤ 65535 → to ≤ m → n ≡ length w → Declared t m from a b → Filled s₀ s w → Filled s₀ s' (w ++ (a ∷ b ∷ to ∷ []))
+  pub fills : (a b : ℕ) → m ≤ 65535 → to ≤ m → Declared t m from a b → Filled s s' (a ∷ b ∷ to ∷ [])
 
-pub record OperationPut (t : List ℕ) (m from n : ℕ) (s s' : List ℕ) (r : ℕ) : Type 0 where
+pub record OperationPut (t : List ℕ) (m from : ℕ) (s s' : List ℕ) (r : ℕ) : Type 0 where
   pub same : length s' ≡ length s
   pub behind : (a b e f : ℕ) → OperationIn t m from a b e f → r ≡ f
-  pub fills : (s₀ w : List ℕ) (a b e f : ℕ) → m ≤ 65535 → n ≡ length w → OperationIn t m from a b e f → Filled s₀ s w
-      → Filled s₀ s' (w ++ (a ∷ b ∷ e ∷ f ∷ []))
+  pub fills : (a b e f : ℕ) → m ≤ 65535 → OperationIn t m from a b e f → Filled s s' (a ∷ b ∷ e ∷ f ∷ [])
 
 -- operations from i up to the end, their numbers, and how many they are
 pub data OperationsIn (t : List ℕ) (m : ℕ) : ℕ → List ℕ → ℕ → Type 0 where

@@ -8,6 +8,7 @@
 ghost use Rattle.std.specs.Prelude.{◌≡◌, ◌+◌, ◌*◌, ◌≤◌, ◌<◌, length, take};
 ghost use Rattle.parser.specs.Sections.{PartOf};
 ghost use Rattle.node_spans.specs.Spans.{Spanned, span};
+ghost use Rattle.node_spans.specs.StateSpans.{state_first};
 ghost use Rattle.node_spans.specs.SpanPromises.{NumberPut, Three, StatePut, OperationPut, OperationsPut};
 
 use form::shapes::DECLARED;
@@ -16,6 +17,8 @@ use parser::sections::Nodes;
 pub use parser::sections::{States, between};
 
 pub mod span;
+
+use span::State;
 
 // The nodes of a dossier, or those of its table, which stand in the same places; where its parts stand among them; and how many operations it has.
 // How long the array is stands beside it, since a proof does not find it behind a reference to the struct.
@@ -49,11 +52,11 @@ impl<'a> Parts<'a> {
         operation_spans(spans, k)
     }
 
-    // The nodes of the variables of the state whose numbers stand from the span k on.
-    pub fn variables(&self, k: usize) -> &'a [u16]
-        requires { k < 80 }
-        ensures { PartOf self.now.nodes.now (span self.now.spans.now k) (span self.now.spans.now (k + 1)) result.now }
+    // The nodes of the variables of a state.
+    pub fn variables(&self, state: State) -> &'a [u16]
+        ensures { PartOf self.now.nodes.now (span self.now.spans.now (state_first state)) (span self.now.spans.now (state_first state + 1)) result.now }
     {
+        let k = state.first();
         between(self.nodes, self.span(k), self.span(k + span::STATE_LAST))
     }
 
@@ -63,8 +66,8 @@ impl<'a> Parts<'a> {
         ensures concretes { PartOf self.now.nodes.now (span self.now.spans.now 3) (span self.now.spans.now 4) result.concretes.now }
     {
         States {
-            abstracts: self.variables(span::ABSTRACT_FIRST),
-            concretes: self.variables(span::CONCRETE_FIRST),
+            abstracts: self.variables(State::Abstract),
+            concretes: self.variables(State::Concrete),
         }
     }
 
@@ -120,36 +123,37 @@ pub fn put_number(numbers: &mut [u16], k: usize, n: usize)
     numbers[k] = u16::try_from(n).unwrap_or(0);
 }
 
-fn three(spans: &mut [u16], n: usize, x: usize, y: usize, z: usize)
-    requires { n + 3 ≤ length spans.old }
-    ensures { Three n x y z spans.old spans.new }
+// Three numbers, in front of a part of the spans.
+fn three(part: &mut [u16], x: usize, y: usize, z: usize)
+    requires { 3 ≤ length part.old }
+    ensures { Three x y z part.old part.new }
 {
-    put_number(spans, n, x);
-    put_number(spans, n + 1, y);
-    put_number(spans, n + 2, z);
+    put_number(part, 0, x);
+    put_number(part, 1, y);
+    put_number(part, 2, z);
 }
 
 // Of the state between two places: where its variables begin and end, and its predicate ends.
-fn state(made: &Nodes<'_>, from: usize, to: usize, spans: &mut [u16], n: usize)
-    requires { n + 3 ≤ length spans.old }
-    ensures { StatePut (take made.now.end made.now.numbers.now) made.now.end from to n spans.old spans.new }
+fn state(made: &Nodes<'_>, from: usize, to: usize, part: &mut [u16])
+    requires { 3 ≤ length part.old }
+    ensures { StatePut (take made.now.end made.now.numbers.now) made.now.end from to part.old part.new }
 {
     let first = made.skip(from);
     let last = made.run(first, DECLARED, DECLARED);
-    three(spans, n, first, last, to);
+    three(part, first, last, to);
 }
 
 // Of the operation at a place: where its parameters begin and end, and its two predicates end; the place behind it.
-fn operation(made: &Nodes<'_>, from: usize, spans: &mut [u16], n: usize) -> usize
-    requires { n + 4 ≤ length spans.old }
-    ensures { OperationPut (take made.now.end made.now.numbers.now) made.now.end from n spans.old spans.new result }
+fn operation(made: &Nodes<'_>, from: usize, part: &mut [u16]) -> usize
+    requires { 4 ≤ length part.old }
+    ensures { OperationPut (take made.now.end made.now.numbers.now) made.now.end from part.old part.new result }
 {
     let first = made.skip(from);
     let last = made.run(first, DECLARED, DECLARED);
     let middle = made.skip(last);
     let end = made.skip(middle);
-    three(spans, n, first, last, middle);
-    put_number(spans, n + span::END, end);
+    three(part, first, last, middle);
+    put_number(part, span::END, end);
     end
 }
 
@@ -158,11 +162,13 @@ fn operations(made: &Nodes<'_>, from: usize, spans: &mut [u16; span::COUNT]) -> 
     ensures { OperationsPut (take made.now.end made.now.numbers.now) made.now.end from spans.old spans.new result }
 {
     let mut at = from;
+    // Form 3: what the library promises of `chunks_exact_mut` says nothing of what the array ends as, and that is what is promised here.
     for k in 0..span::MOST {
         if made.end <= at {
             return k;
         }
-        at = operation(made, at, spans, span::of_operation(k));
+        let n = span::of_operation(k);
+        at = operation(made, at, &mut spans[n..n + span::OPERATION]);
     }
     span::MOST
 }
@@ -172,8 +178,23 @@ pub fn spans(made: &Nodes<'_>, spans: &mut [u16; span::COUNT]) -> usize
     ensures { Spanned made.now.numbers.now made.now.end spans.old spans.new result }
 {
     let s = made.sections();
-    state(made, s.abstracts, s.concretes, spans, span::ABSTRACT_FIRST);
-    state(made, s.concretes, s.ainit, spans, span::CONCRETE_FIRST);
-    three(spans, span::AINIT_END, s.cinit, s.retrieve, s.operations);
+    state(
+        made,
+        s.abstracts,
+        s.concretes,
+        &mut spans[span::ABSTRACT_FIRST..=span::ABSTRACT_END],
+    );
+    state(
+        made,
+        s.concretes,
+        s.ainit,
+        &mut spans[span::CONCRETE_FIRST..=span::CONCRETE_END],
+    );
+    three(
+        &mut spans[span::AINIT_END..=span::RETRIEVE_END],
+        s.cinit,
+        s.retrieve,
+        s.operations,
+    );
     operations(made, s.operations, spans)
 }

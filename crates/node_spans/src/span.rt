@@ -1,6 +1,7 @@
 // Which of the spans' numbers is which (specs/Spans.antt).
 // Form 1: places in the lent array of spans and how many there are, no kinds.
-ghost use Rattle.std.specs.Prelude.{◌≡◌, ◌+◌, ◌*◌, ◌<◌};
+ghost use Rattle.std.specs.Prelude.{◌≡◌, ◌+◌, ◌*◌, ◌≤◌, ◌<◌};
+ghost use Rattle.node_spans.specs.StateSpans.{state_first};
 
 use lexical::bounds;
 
@@ -21,6 +22,26 @@ pub const CONCRETE_END: usize = 5;
 pub const STATE_LAST: usize = 1;
 
 pub const STATE_END: usize = 2;
+
+// The two states of a dossier.
+// Form 1: two cases of its own, no Option or Result.
+#[derive(Clone, Copy)]
+pub enum State {
+    Abstract,
+    Concrete,
+}
+
+impl State {
+    // Where the numbers of the state begin.
+    pub fn first(self) -> usize
+        ensures { (result ≡ state_first self) × (result ≤ 3) }
+    {
+        match self {
+            State::Abstract => ABSTRACT_FIRST,
+            State::Concrete => CONCRETE_FIRST,
+        }
+    }
+}
 
 // Where the three conditions end.
 pub const AINIT_END: usize = 6;

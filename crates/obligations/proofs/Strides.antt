@@ -1,6 +1,6 @@
 -- Demand 2 through the calls: what one advance does, by one look over all checks. Assumes nothing.
 use mathlib.Core.Path.{◌≡◌, refl, sym, ap, ap₂, ◌∙◌}
-use mathlib.Core.Bool.{Bool, true, false, cond, ◌||◌, true≢false}
+use mathlib.Core.Bool.{Bool, true, false, cond, ◌||◌}
 use mathlib.Core.List.{[]}
 use Prim.Native.Nat.{ℕ, suc, pred, ◌+◌, ◌-◌, ◌<◌, ◌≤◌, min}
 use native.Mathlib.Decide.{dec_lt}
@@ -11,6 +11,7 @@ use lib.ListN.{length-append, length-map}
 use Rattle.static_rules.specs.Limits.{binding_count}
 use Rattle.static_rules.specs.Scope.{unprimed}
 use Rattle.meaning.specs.Operations.{concrete_bindings}
+use Rattle.std.proofs.lemmas.Bool.{cond-false}
 use Rattle.carriers.proofs.Bindings.{bindings-some, bindings-count}
 use Rattle.obligations.specs.Subjects.{Subject}
 use Rattle.obligations.specs.Order.{obligation_of, initialises, passes, operation_checks, opening, checks, total, Look, look}
@@ -68,10 +69,6 @@ module _ (σ : Subject) where
       ∙ ap (λ (t : Bool). verdict_by t (obligation_of (check_at σ (pred (whole_count σ))))) (sym e)
       ∙ ap (λ (t : Bool). cond t unfinished (whole_verdict σ)) (sym (le-ltb q (whole_count σ) (omega arith)))
 
-cond_false : {A : Type 0} (t : Bool) (x y : A) → t ≡ false → cond t x y ≡ y
-cond_false true x y e = absurd (true≢false e)
-cond_false false x y e = refl
-
 module _ (σ : Subject) (p n : ℕ) (below : p < whole_count σ) (one : 1 ≤ n) (most : n ≤ 1000000000) where
   abbrev far : ℕ
   far = min n (whole_count σ - p)
@@ -83,7 +80,7 @@ module _ (σ : Subject) (p n : ℕ) (below : p < whole_count σ) (one : 1 ≤ n)
       → respond (holding σ p unfinished) (advance n) ≡ outcome (looked far) (holding σ (p + far) (verdict_after σ (p + far))) []
   unfolding respond advancing advanced
   by-look t e v =
-      cond_false _ _ (advanced σ p (look σ (next_checks σ p n))) in-range
+      cond-false _ _ (advanced σ p (look σ (next_checks σ p n))) in-range
       ∙ ap (advanced σ p) e
       ∙ ap (λ (w : Verdict). outcome (looked far) (holding σ (p + far) w) []) v
 

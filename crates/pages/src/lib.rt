@@ -33,7 +33,8 @@ pub struct Counts {
 }
 
 // A phrase, an operation, two numbers, and numbers of bindings.
-// Form 1: an item takes any number as its phrase (phrases/src/words.rt); an enum would narrow a public field.
+// Form 1: an item takes any number as its phrase (phrases/src/words.rt); an enum would narrow a public field. Its operation is 0 where the phrase shows none, and the number of an ending where it
+// shows an ending, as n and m are what the phrase shows of them: which of the three it shows its words say, so that with an Option `put_phrase` would unwrap it with 0 at each look.
 #[derive(Clone, Copy, Default)]
 pub struct Item {
     pub phrase: usize,

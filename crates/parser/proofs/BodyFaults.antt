@@ -1,8 +1,9 @@
 -- Entries of the contents against bodies, given sets and operations alike: what the code compares, and the faults.
+use Rattle.std.specs.Simd.Lanes.{Each1}
 use Rattle.std.specs.Prelude.{Some}
 use mathlib.Core.Path.{◌≡◌, refl, sym, ap, ◌∙◌, subst}
 use mathlib.Core.Bool.{Bool, true, false}
-use mathlib.Core.List.{List, [], ◌∷◌, ◌++◌, append_assoc}
+use mathlib.Core.List.{List, [], ◌∷◌, ◌++◌, map, append_assoc}
 use Prim.Native.Nat.{ℕ, ◌+◌, ◌≤◌, ◌<◌}
 use native.Mathlib.Omega.{arith}
 use lib.ListN.{length, get_or, length-append}
@@ -53,8 +54,7 @@ faults-rise i z (x ∷ xs) (b ∷ bs) ys h r = one_more i b (faults z xs bs) ys 
 
 -- what belongs to each body has the shapes low to high
 abbrev pub Inners : (low high : ℕ) → List Body → Type 0
-Inners low high [] = Unit {0}
-Inners low high (b ∷ bs) = Items low high b.inner × Inners low high bs
+Inners low high bs = Each1 (λ (b : Body). Items low high b.inner) bs
 
 -- the letters are those of a name of the text
 pub record Has (w : List Symbol) (x : Letters) : Type 0 where
@@ -62,12 +62,10 @@ pub record Has (w : List Symbol) (x : Letters) : Type 0 where
   pub is : get_or w index (fixed kind.END) ≡ symbol.name (record { letters = x; ending = no_ending })
 
 abbrev pub Knows : List Symbol → List Letters → Type 0
-Knows w [] = Unit {0}
-Knows w (x ∷ xs) = Has w x × Knows w xs
+Knows w xs = Each1 (Has w) xs
 
 abbrev pub KnowsTitles : List Symbol → List Body → Type 0
-KnowsTitles w [] = Unit {0}
-KnowsTitles w (b ∷ bs) = Has w b.title × KnowsTitles w bs
+KnowsTitles w bs = Knows w (map (λ (b : Body). b.title) bs)
 
 number-tells : (ρ : Numbering) (x y : Letters) → number_of_name ρ x no_ending ≡ number_of_name ρ y no_ending → ρ x ≡ ρ y
 unfolding number_of_name

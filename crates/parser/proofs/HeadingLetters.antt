@@ -1,6 +1,6 @@
 -- The letters of every entry and every title are those of a name of the text.
 use mathlib.Core.Path.{refl}
-use mathlib.Core.List.{List, [], ◌∷◌, map}
+use mathlib.Core.List.{List, [], ◌∷◌}
 use Prim.Native.Nat.{ℕ, suc, ◌+◌}
 use Rattle.lexical.specs.Kinds as kind
 use Rattle.lexical.specs.Kinds.{Kind}
@@ -13,13 +13,11 @@ use Rattle.form.specs.Codes.{Numbering}
 use Rattle.parser.proofs.BodyFaults.{Has, Knows, KnowsTitles}
 use Rattle.parser.proofs.TitledBodies.{given_bodies, operation_bodies}
 use Rattle.form.proofs.RelationsBehind as kept
-
-abbrev plain : List Written → List Symbol
-plain u = map (λ (x : Written). x.symbol) u
+use Rattle.form.proofs.Takes.{symbols_in}
 
 -- the letters y are those of a name in the first list
 abbrev In : Letters → List Written → List Written → Type 0
-In y u v = Has (plain u) y
+In y u v = Has (symbols_in u) y
 
 there : (y : Letters) (x z : Written) (u v : List Written) → In y u v → In y (x ∷ u) (z ∷ v)
 there y x z u v h = record { index = suc h.index; is = h.is }
@@ -30,7 +28,7 @@ later h = record { index = suc h.index; is = h.is }
 
 -- what is written inside the text w
 abbrev Embeds : List Written → List Symbol → Type 0
-Embeds u w = (y : Letters) → Has (plain u) y → Has w y
+Embeds u w = (y : Letters) → Has (symbols_in u) y → Has w y
 
 entries-known : (w : List Symbol) (k : Kind) (m : ℕ → Mark) (n : ℕ) (xs : List Letters) (u : List Written) → Embeds (write_entries k m n xs u) w → Knows w xs
 unfolding write_entries

@@ -1,6 +1,7 @@
 -- What is known of the symbols of every text in which the scan finds no fault, and of the arrays that it leaves.
 use Prim.Native.Nat.{ℕ, zero, suc, ◌+◌, ◌≤◌, ◌<◌}
-use Rattle.form.proofs.ScannedSymbols.{scan-spelled}
+use Rattle.std.specs.Simd.Lanes.{Each1}
+use Rattle.form.proofs.ScannedSymbols.{scan-spelled, text_symbols as symbols_of}
 use Rattle.form_nodes.specs.FormPromises.{codes}
 use Rattle.lexical.proofs.WordLaws.{same_refl}
 use Rattle.lexical.specs.Kinds as kind
@@ -16,7 +17,7 @@ use Rattle.parser.specs.Promises.{text_symbols, numbering}
 use Rattle.parser.specs.Sections.{Tells}
 use Rattle.lexical.proofs.FoundSymbols.{scan-has}
 use Rattle.symbols.proofs.ValueLaws.{Named, same-value}
-use Rattle.refusals.proofs.FaultLists.{none-least}
+use Rattle.refusals.proofs.FaultLists.{not_nil, none-least}
 use borrow.Author.Tests.{ltb-false, le-ltb, eqb-false}
 use lib.Dec.{eqb, ltb}
 use lib.ListN.{length, take, drop, get_or, length-map}
@@ -34,11 +35,7 @@ Below (numeral n) = n ≤ 1000
 Below (name x) = Unit {0}
 
 abbrev AllBelow : List Symbol → Type 0
-AllBelow [] = Unit {0}
-AllBelow (s ∷ w) = Below s × AllBelow w
-
-abbrev symbols_of : List Placed → List Symbol
-symbols_of l = map (λ (x : Placed). x.symbol) l
+AllBelow w = Each1 Below w
 
 all-below : (text : List ℕ) → AllBelow (text_symbols text)
 unfolding all
@@ -49,26 +46,23 @@ none_both : (f g : Option Fault) → first_of f g ≡ none → (f ≡ none) × (
 none_both none g e = (refl, e)
 none_both (some f) g e = let z : ◌≡◌ {A = ℕ} 0 1 = cc in absurd (omega arith)
 
-none-some : (f : Fault) (fs : List Fault) → f ∷ fs ≡ [] → ⊥
-none-some f fs e = let z : ◌≡◌ {A = ℕ} 0 1 = cc in omega arith
-
 not-long : (text : List ℕ) → length_faults text ≡ [] → length text ≤ 32768
 unfolding length_faults
 not-long text e = on (ltb 32768 (length text)) refl e
   where
     on : (b : Bool) → ltb 32768 (length text) ≡ b → cond b (fault 32768 long_text ∷ []) [] ≡ [] → length text ≤ 32768
-    on true t q = absurd (none-some _ _ q)
+    on true t q = not_nil _ _ q
     on false t q = ltb-false 32768 (length text) t
 
 not-many : (s : Scan) (n : ℕ) → n ≤ 4096 → scan_faults n s ≡ [] → n + length (symbols s) ≤ 4096
 unfolding scan_faults symbols
 not-many done n l e = omega arith
-not-many (stopped p) n l e = absurd (none-some _ _ e)
+not-many (stopped p) n l e = not_nil _ _ e
 not-many (next x s) n l e = on (eqb n 4096) refl e (not-many s (suc n))
   where
     on : (b : Bool) → eqb n 4096 ≡ b → ◌≡◌ {A = List Fault} (elim b [ true ↦ fault x.place many_symbols ∷ scan_faults (suc n) s | false ↦ scan_faults (suc n) s ]) []
         → (suc n ≤ 4096 → scan_faults (suc n) s ≡ [] → suc n + length (symbols s) ≤ 4096) → n + suc (length (symbols s)) ≤ 4096
-    on true t q r = absurd (none-some _ _ q)
+    on true t q r = not_nil _ _ q
     on false t q r = let d : n ≡ 4096 → ⊥ = eqb-false n 4096 t in let m = r (omega arith) q in omega arith
 
 -- the first symbol that is a name with these letters

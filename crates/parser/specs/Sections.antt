@@ -102,6 +102,7 @@ size_at t i = size_of (get_or t (i + 3) 0) (get_or t (i + 1) 0)
 
 pub record Skips (a : List ℕ) (m at r : ℕ) : Type 0 where
   pub within : r ≤ m
+  pub behind : at ≤ m → at ≤ r
   pub ahead : at < m → at < r
   pub exact : at + 4 ≤ m → at + size_at (take m a) at ≤ m → r ≡ at + size_at (take m a) at
 

@@ -1,6 +1,6 @@
 // The bodies of states, of conditions and of operations, and a whole dossier: numbers 4, 5 and 6 of document 01, and their nodes.
-// Form 5: `Room` is asked as in declarations/contents, which says why it is a clause.
-ghost use Rattle.std.specs.Prelude.{◌≡◌, [], ◌∷◌, ◌++◌, ◌+◌, ◌*◌, ◌≤◌, ◌<◌, length, get_or};
+// Form 5: `Room`, and that a name stands behind the word `op`, are asked as in declarations/contents, which says why each is a clause.
+ghost use Rattle.std.specs.Prelude.{◌≡◌, [], ◌∷◌, ◌++◌, ◌+◌, ◌*◌, ◌≤◌, length, get_or};
 ghost use Rattle.lexical.specs.Kinds as kind;
 ghost use Rattle.lexical.specs.Kinds.{Kind, code_of};
 ghost use Rattle.form.specs.Machine.{some_bodies, some_operations, some_parameters};
@@ -16,10 +16,10 @@ use form::{node, shapes};
 use form_nodes::kinds::kind_at;
 use form_nodes::nodes::{name_number, put};
 use form_nodes::ranges::close;
-use form_nodes::{Read, Symbols};
+use form_nodes::{Read, Symbols, no_dossier};
 use lexical::bounds::OPERATIONS;
 use lexical::codes;
-use refusals::{Fault, Refusal};
+use refusals::Fault;
 
 // A predicate and the word behind it. The node that counts its numbers is written last, in front of them.
 fn condition(y: &Symbols<'_>, from: Read, word: u8, code: &mut [u16]) -> Result<Read, Fault>
@@ -38,19 +38,19 @@ fn condition(y: &Symbols<'_>, from: Read, word: u8, code: &mut [u16]) -> Result<
 
 // A state's body, by its heading.
 fn state(y: &Symbols<'_>, from: Read, word: u8, code: &mut [u16]) -> Result<Read, Fault>
-    requires { Room y.now.kinds.now code.old from.at from.count × (1 ≤ word) }
+    requires { Room y.now.kinds.now code.old from.at from.count }
     ensures { ((κ : Kind) → (code_of κ ≡ word) → Reads y.now.kinds.now from.at from.count (a_state_of κ) [] result) × Made y.now.kinds.now y.now.values.now (a_state word) from.at from.count code.old code.new result }
 {
     let heading = close(y.kinds, from, word)?;
-    let count = put(code, from.count, shapes::STATE, from.at, 0, 0);
-    let declared = declarations(y, Read { count, ..heading }, code)?;
+    let begun = heading.with_node(code, shapes::STATE, from.at, 0, 0);
+    let declared = declarations(y, begun, code)?;
     let wheres = close(y.kinds, declared, codes::WHERE)?;
     condition(y, wheres, codes::END, code)
 }
 
 // The body of ainit, cinit or retrieve, by its heading.
 fn where_of(y: &Symbols<'_>, from: Read, word: u8, code: &mut [u16]) -> Result<Read, Fault>
-    requires { Room y.now.kinds.now code.old from.at from.count × (1 ≤ word) }
+    requires { Room y.now.kinds.now code.old from.at from.count }
     ensures { ((κ : Kind) → (code_of κ ≡ word) → Reads y.now.kinds.now from.at from.count (a_where_of κ) [] result) × Made y.now.kinds.now y.now.values.now (a_where word) from.at from.count code.old code.new result }
 {
     let heading = close(y.kinds, from, word)?;
@@ -60,16 +60,14 @@ fn where_of(y: &Symbols<'_>, from: Read, word: u8, code: &mut [u16]) -> Result<R
 
 // The body of an operation behind its name.
 fn operation(y: &Symbols<'_>, from: Read, code: &mut [u16]) -> Result<Read, Fault>
-    requires { Room y.now.kinds.now code.old from.at from.count × (from.at + 1 < length y.now.kinds.now) × (get_or y.now.kinds.now from.at 0 ≡ 43) × (get_or y.now.kinds.now (from.at + 1) 0 ≡ 2) }
+    requires { Room y.now.kinds.now code.old from.at from.count × (get_or y.now.kinds.now from.at 0 ≡ 43) × (get_or y.now.kinds.now (from.at + 1) 0 ≡ 2) }
     ensures { Reads y.now.kinds.now (from.at + 1 + 1) (from.count + 4) (some_parameters 0 0 ∷ a_condition_to kind.CONCRETE ++ a_condition_to kind.END) ([]) result × More y.now.kinds.now y.now.values.now part.some_operations from.at from.count code.old code.new result }
 {
-    let name = from.at + 1;
-    let x = name_number(y.kinds, y.values, name);
-    let count = put(code, from.count, shapes::OPERATION, from.at, x, 0);
-    let titled = Read {
-        at: name + 1,
-        count,
-    };
+    let name = from.skip();
+    let x = name_number(y.kinds, y.values, name.at);
+    let titled = name
+        .skip()
+        .with_node(code, shapes::OPERATION, from.at, x, 0);
     let taken = parameters(y, titled, code)?;
     let word = close(y.kinds, taken, codes::ABSTRACT)?;
     let abstractly = condition(y, word, codes::CONCRETE, code)?;
@@ -130,10 +128,7 @@ pub(crate) fn dossier(y: &Symbols<'_>, code: &mut [u16]) -> Result<Read, Fault>
     let listed = contents(y, code)?;
     let read = bodies(y, listed, code)?;
     if read.at < y.kinds.len() {
-        return Err(Fault {
-            place: read.at,
-            refusal: Refusal::NoDossier,
-        });
+        return Err(no_dossier(read.at));
     }
     Ok(read)
 }

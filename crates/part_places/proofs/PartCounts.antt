@@ -3,6 +3,7 @@ use mathlib.Core.Path.{◌≡◌, sym, ◌∙◌, subst}
 use mathlib.Core.List.{List}
 use mathlib.Core.Option.{some}
 use Prim.Native.Nat.{ℕ, ◌+◌, ◌-◌, ◌*◌, ◌/◌, ◌%◌, ◌<◌, ◌≤◌}
+use native.Mathlib.Nat.{mul-one}
 use native.Mathlib.Omega.{arith}
 use native.Mathlib.Decide.{dec_lt}
 use lib.ListN.{get_elem?}
@@ -27,9 +28,6 @@ pub record Sized (d : Dossier) (k : ℕ) (p : Part) : Type 0 where
 one-group : (n : ℕ) → 1 * n * 1 * 1 * 1 ≡ n
 one-group n = omega arith
 
-once-each : (n : ℕ) → n * 1 * 1 ≡ n
-once-each n = omega arith
-
 module _ {table groups : List ℕ} {d : Dossier} (G : GroupsOf table groups d) where
   opening-sized : Sized d 0 (opening_part (unprimed d d.abstract) (unprimed d d.concrete))
   opening-sized = record {
@@ -40,8 +38,7 @@ module _ {table groups : List ℕ} {d : Dossier} (G : GroupsOf table groups d) w
   module _ (j : ℕ) (op : Operation) (listed : get_elem? d.operations j ≡ some op) where
     applicability-sized : Sized d (1 + 2 * j) (applicability_part (unprimed d d.abstract) (unprimed d d.concrete) (inputs d op) (outputs d op))
     applicability-sized = record {
-      many = once-each (binding_count (unprimed d d.abstract) * binding_count (unprimed d d.concrete) * binding_count (inputs d op))
-          ∙ sym (applicability-size d j op listed ∙ applicability-counts d op);
+      many = mul-one _ ∙ mul-one _ ∙ sym (applicability-size d j op listed ∙ applicability-counts d op);
       few = record {
         few_a = G.abstracts.bindings;
         few_c = G.concretes.bindings;

@@ -46,6 +46,8 @@ fn part_size(d: &Dossier<'_>, k: usize) -> usize
 }
 
 // How many places all parts have.
+// Form 3: by `map` and `sum` it would have to be shown of the list of all sizes what `part_size` asks of each k, that the sum fits and what it is, as by `product` in
+// `slot_carriers::groups::binding_count`; here the loop goes on from the sum of the parts so far.
 pub fn total(d: &Dossier<'_>) -> usize
     requires { AllAsked d.now.table.now d.now.groups.now d.now.operations }
     ensures { TotalIs d.now.table.now d.now.groups.now d.now.operations result }

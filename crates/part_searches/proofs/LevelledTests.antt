@@ -1,7 +1,7 @@
 -- Functions of points, each with its level, as the tests of a search: each function stands in one level, so all levels together are all functions, and a level does not depend on the
 -- variables from it on.
 use mathlib.Core.Path.{◌≡◌, refl, sym, ap, ap₂, ◌∙◌}
-use mathlib.Core.Bool.{Bool, true, false, ◌&&◌}
+use mathlib.Core.Bool.{Bool, true, false, ◌&&◌, and_assoc}
 use mathlib.Core.List.{List, [], ◌∷◌, ◌++◌}
 use Prim.Native.Nat.{ℕ, zero, suc, ◌+◌, ◌<◌, ◌≤◌}
 use native.Mathlib.Omega.{arith}
@@ -71,10 +71,6 @@ pick-append l (x ∷ xs) ys =
     by_level x.0 l
     (λ e. pick-here l x (xs ++ ys) e ∙ ap (λ (w : List (Point → Bool)). x.1 ∷ w) (pick-append l xs ys) ∙ ap (λ (w : List (Point → Bool)). w ++ pick l ys) (sym (pick-here l x xs e)))
     (λ n. pick-past l x (xs ++ ys) n ∙ pick-append l xs ys ∙ ap (λ (w : List (Point → Bool)). w ++ pick l ys) (sym (pick-past l x xs n)))
-
-and_assoc : (a b c : Bool) → ((a && b) && c) ≡ (a && (b && c))
-and_assoc true b c = refl
-and_assoc false b c = refl
 
 and_turn : (a b c : Bool) → (a && (b && c)) ≡ (b && (a && c))
 and_turn true b c = refl

@@ -3,7 +3,7 @@ use mathlib.Core.Path.{◌≡◌, refl, sym, subst}
 use mathlib.Core.Bool.{Bool, true, false, ◌&&◌, cond}
 use mathlib.Core.Logic.{◌⊎◌, inl, inr}
 use mathlib.Core.List.{List, [], ◌∷◌, ◌++◌}
-use mathlib.Core.Option.{Option, none, some}
+use mathlib.Core.Option.{some}
 use Prim.Native.Nat.{ℕ, suc, ◌+◌, ◌-◌, ◌<◌, ◌≤◌}
 use native.Mathlib.Nat.{max-le}
 use native.Mathlib.Omega.{arith}
@@ -20,7 +20,7 @@ use Rattle.meaning.specs.Bindings.{Among}
 use Rattle.meaning.proofs.Members.{among-append}
 use Rattle.table_nodes.specs.TableByNumber.{next_slot}
 use Rattle.readings.specs.TablePlacesResolvedTable.{Slots, slotted}
-use Rattle.states.specs.SearchGroupsConjuncts.{last_in, used_term, used_items, used_pairs, used_pred}
+use Rattle.states.specs.SearchGroupsConjuncts.{slot_list, last_in, used_term, used_items, used_pairs, used_pred}
 
 -- every slot of these names passes
 abbrev pub Passing : (P : ℕ → Type 0) → Slots → Type 0
@@ -48,11 +48,7 @@ next-high s h = go (ltb s 63)
     go false = omega arith
 
 module _ (P : ℕ → Type 0) (high : (t : ℕ) → 38 ≤ t → P t) where
-  abbrev list_of : Option (Name × ℕ) → List ℕ
-  list_of none = []
-  list_of (some w) = w.1 ∷ []
-
-  found : (x : Name) (W : Slots) → Passing P W → (t : ℕ) → Among t (list_of (find (λ (w : Name × ℕ). same_name w.0 x) W)) → P t
+  found : (x : Name) (W : Slots) → Passing P W → (t : ℕ) → Among t (slot_list (find (λ (w : Name × ℕ). same_name w.0 x) W)) → P t
   unfolding find Among
   found x [] f t m = absurd m
   found x (w ∷ W) f t m = go (same_name w.0 x) (λ k. found x W (λ y h. f y (inr h)) t k) m
@@ -61,8 +57,8 @@ module _ (P : ℕ → Type 0) (high : (t : ℕ) → 38 ≤ t → P t) where
       here (inl e) = subst P (sym e) (f w (inl refl))
       here (inr h) = absurd h
 
-      go : (b : Bool) → (Among t (list_of (find (λ (w : Name × ℕ). same_name w.0 x) W)) → P t)
-          → Among t (list_of (elim b [ true ↦ some w | false ↦ find (λ (w : Name × ℕ). same_name w.0 x) W ])) → P t
+      go : (b : Bool) → (Among t (slot_list (find (λ (w : Name × ℕ). same_name w.0 x) W)) → P t)
+          → Among t (slot_list (elim b [ true ↦ some w | false ↦ find (λ (w : Name × ℕ). same_name w.0 x) W ])) → P t
       go true r k = here k
       go false r k = r k
 

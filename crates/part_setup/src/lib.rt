@@ -191,7 +191,8 @@ pub fn opening(d: &Dossier<'_>, cells: &mut [u32; CELLS]) -> Part
 }
 
 // That of operation j's applicability.
-// Form 2: it and `correctness` differ in the one call whose promise is theirs.
+// Form 2: it and `correctness` differ in the one call whose promise is theirs: one function for both would take that call as a closure, with a clause that it may be called and its
+// promise by `F.post`, for these three lines.
 pub fn applicability(d: &Dossier<'_>, j: usize, cells: &mut [u32; CELLS]) -> Part
     requires operation_asked { OperationAsked d.now.table.now d.now.groups.now (18 + 8 * j) }
     requires blank { Blank cells.old }
@@ -244,9 +245,11 @@ pub fn first_values(cells: &[u32; CELLS]) -> [[i64; SLOTS]; 2]
     ensures { Filled cells.now result }
 {
     let mut arrays = [[0i64; SLOTS]; 2];
+    // Form 3: after an adapter of `iter_mut` (`enumerate`, `zip`) nothing is known of what was written.
     for s in 0..slots::COUNT {
         arrays[slots::BEFORE][s] = value_at(cells, s, 0);
     }
+    // Form 3: as above.
     for s in 0..slots::INPUTS {
         arrays[slots::AFTER][s] = value_at(cells, primed_slot(s), 0);
     }

@@ -3,6 +3,7 @@ use mathlib.Core.Path.{◌≡◌, refl, sym, ap, ap₂, ◌∙◌, subst}
 use mathlib.Core.List.{List}
 use mathlib.Core.Option.{some}
 use Prim.Native.Nat.{ℕ, ◌+◌, ◌-◌, ◌*◌, ◌<◌}
+use native.Mathlib.Nat.{mul-one}
 use native.Mathlib.Omega.{arith}
 use lib.ListN.{length, get_elem?}
 use Rattle.form.specs.Tree.{Operation, Dossier}
@@ -83,9 +84,6 @@ module _ {table rows firsts groups : List ℕ} {j : ℕ} (x : OperationLook tabl
   abbrev op : Operation
   op = x.operation
 
-  once-each : (n : ℕ) → n * 1 * 1 ≡ n
-  once-each n = omega arith
-
   low : j < length d.operations
   low = entry-below op d.operations j x.listed
 
@@ -98,7 +96,7 @@ module _ {table rows firsts groups : List ℕ} {j : ℕ} (x : OperationLook tabl
         groups = applicability_of d op;
         tests = applicability_tests d op;
         nest = applicability-nest X n refl (applicability-sized d op x.reading j x.listed X.celled);
-        many = once-each (binding_count (us x) * binding_count (cs x) * binding_count (is x)) ∙ sym (z ∙ applicability-counts d op);
+        many = mul-one _ ∙ mul-one _ ∙ sym (z ∙ applicability-counts d op);
         same = λ q h.
             let s : start_of (subject_of d) j + q ≡ part_begin d (1 + 2 * j) + q = omega (arith, applicability-begin d j (omega (arith, low))) in
             ap₂ (λ (m k : ℕ). passes_from (applicability_tests d op) m k 1 1 q) (sym (concretes-count d)) (sym (givens-count d op))

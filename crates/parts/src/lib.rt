@@ -1,12 +1,12 @@
 // The parts of a check one after the other, initialisation, then for each operation applicability and correctness: the search from one place up to another.
-// Form 5: that `from ≤ end` stands in three contracts. A struct of both with that as its invariant is seven lines for the three clauses, and its order has to
-// be shown at each of the four literals that make one (three for `search`, in the crates above, and one for `look`), where the clause is shown at each of these four calls now.
+// Form 5: that `from ≤ end` stands in three contracts here and in that of `nest::sweep`. A struct of both with that as its invariant is seven lines for the four clauses, and its order has to
+// be shown at each of the four literals that make one (three for `search`, in the crates above, and one for `look`), where the clause is shown at each of these four calls now, and at that of `sweep`.
 #![tactic(auto)]
 
 ghost use Rattle.std.specs.Prelude.{◌^◌, ◌<◌, ◌≤◌};
 ghost use Rattle.parts.specs.SearchPromises.{PartAsked, PartAnswers, LookAsked, LookAnswers, SearchAsked, SearchAnswers};
 
-use crate::ready::set_part;
+use crate::ready::{PartArrays, set_part};
 use held_checks::{OBLIGATIONS, OPENING};
 use nest::sweep;
 use part_setup::{first_values, places};
@@ -48,13 +48,15 @@ fn look(d: &Dossier<'_>, k: usize, from: usize, end: usize) -> PartLooked
     requires look_asked { LookAsked d.now.table.now d.now.rows.now d.now.firsts.now d.now.groups.now k }
     ensures { LookAnswers d.now.table.now d.now.rows.now d.now.firsts.now d.now.groups.now k from end result.size result.failing }
 {
-    let mut cells = [0u32; CELLS];
-    let mut plan = [0u16; PLAN];
-    let part = set_part(d, k, &mut cells, &mut plan);
+    let mut a = PartArrays {
+        cells: [0; CELLS],
+        plan: [0; PLAN],
+    };
+    let part = set_part(d, k, &mut a);
     let s = PartSearch {
         table: d.table,
-        plan: &plan,
-        cells: &cells,
+        plan: &a.plan,
+        cells: &a.cells,
         part,
     };
     sweep_part(&s, from, end)

@@ -1,5 +1,6 @@
 // Parts of a check made ready for their searches: what is made of a dossier for them.
 // Form 5: `LookAsked` is of the dossier and of the part's number k: a struct of both is a `Model` of some ten lines, and `set_part` would still show k for each obligation.
+// That the cells are blank is asked of the four functions that make a part ready: it holds before the call and not behind it, so that it is no invariant of `PartArrays`.
 ghost use Rattle.std.specs.Prelude.{◌≡◌, ◌+◌, ◌*◌};
 ghost use Rattle.part_setup.specs.SetupPromises.{Blank};
 ghost use Rattle.parts.specs.SearchPromises.{LookAsked, OpeningReady, ApplicabilityReady, CorrectnessReady, PartReady};
@@ -36,74 +37,62 @@ impl ReadyPart {
     }
 }
 
-// Initialisation, into cells and plan that are lent.
-// Form 5: cells and plan are lent by `look`. Handed back to it in a `ReadyPart` they are copied at each return: that was tried, and misses the bar, which is
-// the time of the lent arrays: `dossier` took 1.03 to 1.27 of it.
-fn set_opening(d: &Dossier<'_>, cells: &mut [u32; CELLS], plan: &mut [u16; PLAN]) -> Part
+// The arrays that a part is made ready in. They are lent: handed back in a `ReadyPart` to each search of a check they are copied, and `dossier` takes 1.03 to 1.27 of the time.
+#[derive(Drop)]
+pub(crate) struct PartArrays {
+    pub cells: [u32; CELLS],
+    pub plan: [u16; PLAN],
+}
+
+// Initialisation, into arrays that are lent.
+fn set_opening(d: &Dossier<'_>, a: &mut PartArrays) -> Part
     requires look_asked { LookAsked d.now.table.now d.now.rows.now d.now.firsts.now d.now.groups.now 0 }
-    requires blank { Blank cells.old }
-    ensures { OpeningReady d.now.table.now d.now.rows.now d.now.firsts.now d.now.groups.now plan.new cells.new result }
+    requires blank { Blank a.old.cells }
+    ensures { OpeningReady d.now.table.now d.now.rows.now d.now.firsts.now d.now.groups.now a.new.plan a.new.cells result }
 {
-    plan_initialisation(d, plan);
-    opening(d, cells)
+    plan_initialisation(d, &mut a.plan);
+    opening(d, &mut a.cells)
 }
 
 // Applicability of operation j.
 // Form 2: it and correctness differ in their sizes, their plans and what both promise: one function over both would be handed each of these, and be no shorter.
-// Form 5: as `set_opening`.
-fn set_applicability(
-    d: &Dossier<'_>,
-    j: usize,
-    cells: &mut [u32; CELLS],
-    plan: &mut [u16; PLAN],
-) -> Part
+fn set_applicability(d: &Dossier<'_>, j: usize, a: &mut PartArrays) -> Part
     requires look_asked { LookAsked d.now.table.now d.now.rows.now d.now.firsts.now d.now.groups.now (1 + 2 * j) }
-    requires blank { Blank cells.old }
-    ensures { ApplicabilityReady d.now.table.now d.now.rows.now d.now.firsts.now d.now.groups.now j plan.new cells.new result }
+    requires blank { Blank a.old.cells }
+    ensures { ApplicabilityReady d.now.table.now d.now.rows.now d.now.firsts.now d.now.groups.now j a.new.plan a.new.cells result }
 {
-    let part = applicability(d, j, cells);
+    let part = applicability(d, j, &mut a.cells);
     plan_applicability(
         d,
         j,
         part.readying.variables - part.abstracts.variables,
-        plan,
+        &mut a.plan,
     );
     part
 }
 
 // Correctness of operation j.
-// Form 5: as `set_opening`.
-fn set_correctness(
-    d: &Dossier<'_>,
-    j: usize,
-    cells: &mut [u32; CELLS],
-    plan: &mut [u16; PLAN],
-) -> Part
+fn set_correctness(d: &Dossier<'_>, j: usize, a: &mut PartArrays) -> Part
     requires look_asked { LookAsked d.now.table.now d.now.rows.now d.now.firsts.now d.now.groups.now (2 + 2 * j) }
-    requires blank { Blank cells.old }
-    ensures { CorrectnessReady d.now.table.now d.now.rows.now d.now.firsts.now d.now.groups.now j plan.new cells.new result }
+    requires blank { Blank a.old.cells }
+    ensures { CorrectnessReady d.now.table.now d.now.rows.now d.now.firsts.now d.now.groups.now j a.new.plan a.new.cells result }
 {
-    let part = correctness(d, j, cells);
-    plan_correctness(d, j, part.outputs.variables, plan);
+    let part = correctness(d, j, &mut a.cells);
+    plan_correctness(d, j, part.outputs.variables, &mut a.plan);
     part
 }
 
 // The k-th part.
-// Form 5: as `set_opening`.
-pub(crate) fn set_part(
-    d: &Dossier<'_>,
-    k: usize,
-    cells: &mut [u32; CELLS],
-    plan: &mut [u16; PLAN],
-) -> Part
+// Form 2: `part_places::part_cells` is the same match without the plans; over it this would match a second time for them.
+pub(crate) fn set_part(d: &Dossier<'_>, k: usize, a: &mut PartArrays) -> Part
     requires look_asked { LookAsked d.now.table.now d.now.rows.now d.now.firsts.now d.now.groups.now k }
-    requires blank { Blank cells.old }
-    ensures { PartReady d.now.table.now d.now.rows.now d.now.firsts.now d.now.groups.now k plan.new cells.new result }
+    requires blank { Blank a.old.cells }
+    ensures { PartReady d.now.table.now d.now.rows.now d.now.firsts.now d.now.groups.now k a.new.plan a.new.cells result }
 {
     match obligation_of(k) {
-        Obligation::Initialisation => set_opening(d, cells, plan),
-        Obligation::Applicability(j) => set_applicability(d, j, cells, plan),
-        Obligation::Correctness(j) => set_correctness(d, j, cells, plan),
+        Obligation::Initialisation => set_opening(d, a),
+        Obligation::Applicability(j) => set_applicability(d, j, a),
+        Obligation::Correctness(j) => set_correctness(d, j, a),
     }
 }
 
@@ -113,10 +102,16 @@ pub fn ready_opening(d: &Dossier<'_>) -> ReadyPart
     requires { LookAsked d.now.table.now d.now.rows.now d.now.firsts.now d.now.groups.now 0 }
     ensures { OpeningReady d.now.table.now d.now.rows.now d.now.firsts.now d.now.groups.now result.plan result.cells result.part }
 {
-    let mut cells = [0u32; CELLS];
-    let mut plan = [0u16; PLAN];
-    let part = set_opening(d, &mut cells, &mut plan);
-    ReadyPart { cells, plan, part }
+    let mut a = PartArrays {
+        cells: [0; CELLS],
+        plan: [0; PLAN],
+    };
+    let part = set_opening(d, &mut a);
+    ReadyPart {
+        cells: a.cells,
+        plan: a.plan,
+        part,
+    }
 }
 
 // Correctness of operation j.
@@ -124,8 +119,14 @@ pub fn ready_correctness(d: &Dossier<'_>, j: usize) -> ReadyPart
     requires { LookAsked d.now.table.now d.now.rows.now d.now.firsts.now d.now.groups.now (2 + 2 * j) }
     ensures { CorrectnessReady d.now.table.now d.now.rows.now d.now.firsts.now d.now.groups.now j result.plan result.cells result.part }
 {
-    let mut cells = [0u32; CELLS];
-    let mut plan = [0u16; PLAN];
-    let part = set_correctness(d, j, &mut cells, &mut plan);
-    ReadyPart { cells, plan, part }
+    let mut a = PartArrays {
+        cells: [0; CELLS],
+        plan: [0; PLAN],
+    };
+    let part = set_correctness(d, j, &mut a);
+    ReadyPart {
+        cells: a.cells,
+        plan: a.plan,
+        part,
+    }
 }

@@ -5,7 +5,7 @@ use crate::Source;
 use labels::{GROUPS, TITLES, VARIABLE, VARIABLES_FROM};
 use lexical::bounds::{NAME_LETTERS, OPERATIONS};
 use lexical::classes::run_from;
-use lines::{Group, LINE, SLOTS, Side, byte_of, put_group};
+use lines::{Group, LINE, SLOTS, Shown, Side, byte_of, put_group};
 use pieces::Writer;
 use search_groups::groups::OPERATION_ROWS;
 use sheets::Sheet;
@@ -34,6 +34,7 @@ pub fn side_of(letter: u8) -> Option<Side> {
 }
 
 // How far the rows of an operation are from the first operation's.
+// Form 1: an item of a page may have any number: for one that no operation has it is 0, as for the first; with an Option its one call would turn `None` back into it.
 fn row_of(operation: usize) -> usize
     ensures { result ≤ 120 }
 {
@@ -88,7 +89,11 @@ impl Pen<'_> {
                 out: &mut line,
                 at: 0,
             };
-            put_group(&s.names, s.slots, one, &mut w);
+            let shown = Shown {
+                names: s.names,
+                slots: s.slots,
+            };
+            put_group(&shown, one, &mut w);
             let end = w.at;
             self.sheet
                 .flow(before(&line, end.saturating_sub(1)), indent);

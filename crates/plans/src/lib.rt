@@ -1,6 +1,9 @@
 // Plans: for each of the five searches of a part its variables, and the conjuncts that it asks by level. Level 0: no variable of the search is mentioned; level l: the
 // last one mentioned is number l - 1, so that a conjunct is asked as soon as that one has its value. A conjunct is one number: twice the end of its nodes, and 1 more where it is
 // asked of the after state.
+// Form 5: that u is one of the five searches is asked by five functions here (of `search` in what it asks of room), two of idle_variables and two of seek: an enum would be turned back into `HEAD * u` where a number of the plan
+// is named, and `idle_searches` goes over all of them from one on. That the rows are those of operation j with n outputs (`OperationRows`) is asked by the two public functions and by
+// `premises`, which both call: a struct of dossier, j and n would be made for one call of each, and their promises name these three one by one.
 #![tactic(auto)]
 
 ghost use Rattle.std.specs.Prelude.{◌≡◌, ◌+◌, ◌<◌, ◌≤◌, length};
@@ -142,6 +145,8 @@ fn step(d: &Dossier<'_>, c: usize, n: usize, second: usize) -> Asked
 }
 
 // A plan that is being written, and the place behind its last test. Where the tests of a level begin stands among the plan's first numbers.
+// Form 5: the dossier goes with the writer through seven of its eight methods: as a field of what is lent to be written, each of the eight would promise that it is the same dossier behind
+// it, as it does of the plan, and the functions that make a writer would show it after each call for what the next one asks of the rows.
 #[derive(Drop)]
 struct Writer<'a> {
     out: &'a mut [u16; PLAN],
@@ -165,6 +170,7 @@ impl<'a> Writer<'a> {
     }
 
     // Appends the conjuncts of a predicate that have the level l.
+    // Form 3: by `step_by(ROW)` over `p.from..p.from + ROW * p.many` the same product and sum would stand in the range's end: no shorter.
     fn append(&mut self, d: &Dossier<'_>, p: Asked, l: usize)
         requires rows { Rows d.now.rows.now (asking p) }
         requires l_bound { self.old.at + length (entries_of d.now.rows.now (asking p) l) ≤ 20560 }

@@ -140,10 +140,7 @@ tame-placed cells (s ∷ ss) δ k τ c h =
     tame-placed cells ss (moved δ s (k / span cells ss)) (k % span cells ss) (tame-moved cells δ s (k / span cells ss) τ ((div-lt_iff_lt-mul p).1 h))
     (counts-rest cells s ss c) (mod-lt k p)
 
--- the digits of k for the first of two groups, by those for both
-over-both : (k a b n : ℕ) → n ≡ a * b → k / n ≡ k / b / a
-over-both k a b n e = ap (λ (x : ℕ). k / x) (e ∙ mul_comm a b) ∙ sym (div-div-eq-div-mul k b a)
-
+-- the digits of k for the second of two groups, by those for both
 rest-div : (k a b n : ℕ) → 0 < a → 0 < b → n ≡ a * b → k % n / b ≡ k / b % a
 rest-div k a b n p q e = ap (λ (x : ℕ). k % x / b) e ∙ ap (λ (x : ℕ). x / b) (mod-mul k p q) ∙ digits_div (k / b % a) (mod-lt k q)
 
@@ -162,7 +159,7 @@ placed-append cells (s ∷ os) ks δ k c d h =
     let n : 0 < span cells (os ++ ks) = subst (λ (x : ℕ). 0 < x) (sym e) (mul-pos p q) in
     placed-append cells os ks (moved δ s (k / span cells (os ++ ks))) (k % span cells (os ++ ks)) r d (mod-lt k n)
     ∙ ap₂ (placed cells ks)
-    (ap₂ (λ (x : ℕ). placed cells os (moved δ s x)) (over-both k (span cells os) (span cells ks) (span cells (os ++ ks)) e)
+    (ap₂ (λ (x : ℕ). placed cells os (moved δ s x)) (ap (λ (x : ℕ). k / x) (e ∙ mul_comm (span cells os) (span cells ks)) ∙ sym (div-div-eq-div-mul k (span cells ks) (span cells os)))
     (rest-div k (span cells os) (span cells ks) (span cells (os ++ ks)) p q e))
     (rest-mod k (span cells os) (span cells ks) (span cells (os ++ ks)) p q e)
 

@@ -4,8 +4,10 @@
 // `step_facts::runs::step_from`, and `remembers` says what the memory is behind the loop.
 // Form 5: that the pairs have room is asked of five functions: as the invariant of a struct around `StepSearch` it would be opened by a line of its own in
 // each, and its `Model` is as long as the clauses are. Memory and marks are lent for a call, and in one struct each function would have to promise the
-// other's part of it unchanged. A type for a low number of a pair, an operation or a layer is a struct with a ghost field and a literal where the number is
-// made, for three to six clauses each, and every use of the number would name its field.
+// other's part of it unchanged. The number of an operation and that of a layer, which go together
+// through `spread_pairs`, `spread_pair` and `spread_inputs`, would be a struct with their bounds, which are constants, as its invariant: with its `Model` it is as long as what these three
+// ask of the two, half a line each, and each would open it. The bound of a pair, of a concrete binding or of a binding of the inputs
+// is made of sizes of the search's part: as in `step_searches`.
 #![tactic(auto)]
 
 ghost use Rattle.std.specs.Prelude.{◌*◌, ◌<◌, ◌≤◌};

@@ -1,7 +1,7 @@
 -- The passes for names, bindings and sizes one behind the other: the first fault, and what is answered.
 use mathlib.Core.Path.{◌≡◌, refl, ap, ap₂, ◌∙◌, sym, subst}
 use mathlib.Core.List.{List}
-use mathlib.Core.Option.{Option, none, some}
+use mathlib.Core.Option.{Option, none, some, some-injective}
 use Prim.Native.Nat.{ℕ}
 use native.Mathlib.Omega.{arith}
 use lib.ListN.{take, get_or}
@@ -72,9 +72,6 @@ module _ (nodes : List ℕ) (m k : ℕ) (named : Named nodes m k) where
 
 -- ---- the answer ----
 
-same-fault : (f g : Fault) → some f ≡ some g → f ≡ g
-same-fault f g e = cc
-
 module _ (K : Type 0) (W : List ℕ → Dossier → Type 0) (starts : List ℕ) (n end : ℕ) (nodes : List ℕ) (m k : ℕ) (faults : Faults nodes m k) where
   -- g is the fault by its symbol, h by its byte
   pub refuses : (g h : refusals.Fault) → k ≡ fault_key (rust.Some g) → h.place ≡ get_or (take n starts) g.place end → h.refusal ≡ g.refusal → K
@@ -84,7 +81,7 @@ module _ (K : Type 0) (W : List ℕ → Dossier → Type 0) (starts : List ℕ) 
       on : (o : Option Fault) → first_fault d ≡ o → ReadIs K (W text) text (pass (located text o) (reading d)) (Err h)
       on none e = absurd (no-zero g (sym p ∙ faults text starts n d st ∙ ap key_of e))
       on (some f) e =
-          let is : fault_is g ≡ f = same-fault (fault_is g) f (key-decides (some (fault_is g)) (some f) (sym p ∙ faults text starts n d st ∙ ap key_of e)) in (
+          let is : fault_is g ≡ f = some-injective (fault_is g) f (key-decides (some (fault_is g)) (some f) (sym p ∙ faults text starts n d st ∙ ap key_of e)) in (
             ap₂ fault
                 (q ∙ ap (get_or (take n starts) g.place) at-end ∙ place_is st g.place ∙ ap (λ (x : Fault). place_at text x.place) is)
                 (ap refusal_is s ∙ ap (λ (x : Fault). x.refusal) is),

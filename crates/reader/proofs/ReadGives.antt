@@ -21,11 +21,12 @@ use Rattle.reader.proofs.FewGivens.{forms-fewer}
 use Rattle.reader.proofs.FewVariables.{forms-few}
 use Rattle.refusals.proofs.FaultLists.{none-least}
 
-abbrev IsRefusal : Reading → Type 0
+abbrev pub IsRefusal : Reading → Type 0
 IsRefusal (refusal f) = Unit {0}
 IsRefusal (reading d) = ⊥
 
-past : (o : Option Fault) (x : Reading) (d : Dossier) → pass o x ≡ reading d → (o ≡ none) × (x ≡ reading d)
+-- where a pass leaves the reading of a dossier, it found no fault
+pub past : (o : Option Fault) (x : Reading) (d : Dossier) → pass o x ≡ reading d → (o ≡ none) × (x ≡ reading d)
 past none x d e = (refl, e)
 past (some f) x d e = absurd (subst IsRefusal e tt)
 
@@ -37,7 +38,7 @@ unlocated : (text : List ℕ) (o : Option Fault) → located text o ≡ none →
 unlocated text none e = refl
 unlocated text (some f) e = absurd (subst IsSome e tt)
 
-same-dossier : (c d : Dossier) → reading c ≡ reading d → c ≡ d
+pub same-dossier : (c d : Dossier) → reading c ≡ reading d → c ≡ d
 same-dossier c d e = cc
 
 -- 4 to 13, where the pass for form has the outcome o

@@ -174,10 +174,6 @@ groups-rows d ρ groups₀ groups h k e =
       operations = split-move (omega arith) s₂;
     }
 
--- the nodes of a dossier at the front of an array
-pub codes-long : (nodes : List ℕ) (d : Dossier) (ρ : Numbering) (m : ℕ) → m ≤ length nodes → take m nodes ≡ dossier_codes d ρ → length (dossier_codes d ρ) ≡ m
-codes-long nodes d ρ m h u = ap length (sym u) ∙ length-take-le m nodes h
-
 -- where `read` leaves the rows and the types of a dossier's variables
 module _ {text spans₀ table₀ groups₀ rows₀ firsts₀ spans table groups rows firsts : List ℕ} {d : Dossier} (given : Gives text d)
     (w : Written text d spans₀ table₀ groups₀ rows₀ firsts₀ spans table groups rows firsts) where
@@ -250,7 +246,7 @@ read-reading text nodes spans₀ table₀ groups₀ rows₀ firsts₀ spans tabl
     A = arranged d ρ
 
     long : length (dossier_codes d ρ) ≡ m
-    long = codes-long nodes d ρ m h u
+    long = ap length (sym u) ∙ length-take-le m nodes h
 
     room : length (dossier_codes d ρ) ≤ length table₀
     room = let q = long in omega arith

@@ -52,6 +52,8 @@ pub fn wanted(y: &Symbols<'_>, s: usize) -> Option<Span> {
 }
 
 // Where the names begin that the name at symbol s must differ from: inputs and outputs differ within their operation, the others in the bodies.
+// Form 1: where no `op` stands before it the names are those of the whole text, and where no `end` stands there are none: both are places that the walk begins at; with an Option it
+// would have to say at its one call what each `None` stands for.
 fn names_from(y: &Symbols<'_>, s: usize) -> usize {
     let kinds = y.kinds;
     match y.kind(s) {

@@ -50,13 +50,8 @@ fn stands(text: &[u8], p: usize, code: usize) -> bool {
 }
 
 // The bits of all that could stand there.
-// Form 2: `points::masks::mask_of` makes such a mask by a test. For these six lines the crate would stand on `points` and so on the evaluator, of which nothing here asks.
 pub fn could_stand(text: &[u8], p: usize) -> usize {
-    let mut bits: usize = 0;
-    for code in 0..CODES {
-        if (code < CLASSES || FIRST_MARK <= code) && stands(text, p, code) {
-            bits |= 1 << code;
-        }
-    }
-    bits
+    (0..CODES)
+        .filter(|&code| (code < CLASSES || FIRST_MARK <= code) && stands(text, p, code))
+        .fold(0, |bits: usize, code| bits | 1 << code)
 }

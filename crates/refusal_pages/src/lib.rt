@@ -1,4 +1,7 @@
 // The page of a refused text: where it was refused, by which rule, and a hint by the number of the refusal.
+// Form 5: the symbols and the page go together through six functions here and three of `refusal_sides` and `refusal_hints`. A struct of both would have its methods in its own crate alone, so that
+// each of these functions would take it as one parameter in place of two, and take it apart at each use. Of the six here five take the number of a symbol too: a struct of the symbols and that
+// number would be taken apart in the same manner, since all that these five ask of `refusal_hints` takes both, one by one.
 #![tactic(auto)]
 
 use lexical::bounds::{PAIRS, PARAMETER_BINDINGS, RANGE_NUMBERS, STATE_BINDINGS};

@@ -3,11 +3,10 @@
 #![tactic(auto)]
 
 use crate::trials::{Term, Trial};
-use lexical::bounds::SYMBOLS;
 use lexical::codes;
 use pages::Page;
 use phrases::words;
-use symbol_spans::{Symbols, Tightness, is_name, tightness_of};
+use symbol_spans::{Symbols, Tightness, tightness_of};
 use text_places::{Span, symbol_end};
 
 pub mod trials;
@@ -19,43 +18,6 @@ pub mod trials;
 pub enum Told {
     Types,
     Sizes,
-}
-
-// Does the body of a given set begin at symbol s? An entry of the contents has no element.
-fn is_set(y: &Symbols<'_>, s: usize) -> bool {
-    y.kind(s) == codes::GIVEN && is_name(y.kind(s.saturating_add(2)))
-}
-
-// The sets of pairs that the side is of, where their first parts are of the given set whose name stands at a byte.
-fn pairs_from(y: &Symbols<'_>, x: &Trial<'_>, first: usize) -> Option<Term> {
-    (0..SYMBOLS)
-        .filter(|&s| is_set(y, s))
-        .map(|s| Term::Pairs(first, y.start(s.saturating_add(1))))
-        .find(|&pairs| x.fits(pairs))
-}
-
-// The type of the given set at symbol s that the side is of.
-fn type_by(y: &Symbols<'_>, x: &Trial<'_>, s: usize) -> Option<Term> {
-    let name = y.start(s.saturating_add(1));
-    let element = Term::Element(name, y.start(s.saturating_add(2)));
-    if x.fits(element) {
-        return Some(element);
-    }
-    let set = Term::Set(name);
-    if x.fits(set) {
-        return Some(set);
-    }
-    pairs_from(y, x, name)
-}
-
-// The type that the side is of.
-fn type_of(y: &Symbols<'_>, x: &Trial<'_>) -> Option<Term> {
-    if x.fits(Term::Number) {
-        return Some(Term::Number);
-    }
-    (0..SYMBOLS)
-        .filter(|&s| is_set(y, s))
-        .find_map(|s| type_by(y, x, s))
 }
 
 // A phrase with the name that stands at a byte of the text.
@@ -74,20 +36,6 @@ fn say_type(text: &[u8], t: Option<Term>, page: &mut Page) {
             say_with_name(text, words::THE_SECOND_SET, second, page);
         }
         None => page.say(words::OF_NO_TYPE),
-    }
-}
-
-// The symbols of a side on the page: their bytes, and their size or type.
-fn say_side(y: &Symbols<'_>, side: Span, whole: Span, title: usize, told: Told, page: &mut Page) {
-    let x = Trial {
-        text: y.text,
-        own: y.bytes(side),
-        atom: y.bytes(whole),
-    };
-    page.say_of(title, 0, x.own.from, x.own.to);
-    match told {
-        Told::Sizes => page.say_of(words::A_SIZE, 0, x.size(), 0),
-        Told::Types => say_type(y.text, type_of(y, &x), page),
     }
 }
 
@@ -127,21 +75,46 @@ fn is_range(y: &Symbols<'_>, t: Span) -> bool {
     y.count_before(codes::UP_TO, t.from) < y.count_before(codes::UP_TO, t.to)
 }
 
-// The left side of the operator at symbol s; of a pair before it both parts.
-fn say_left(y: &Symbols<'_>, s: usize, told: Told, page: &mut Page) {
-    let whole = y.atom(s);
-    let side = left_of(y, s);
-    if y.kind_before(side.from) == codes::MAPLET {
-        let first = left_of(y, side.from.saturating_sub(1));
-        say_side(y, first, whole, words::THE_LEFT_SIDE, told, page);
-    }
-    say_side(y, side, whole, words::THE_LEFT_SIDE, told, page);
+// What is said of the sides of the operator at symbol s.
+#[derive(Clone, Copy)]
+struct Sides<'a> {
+    symbols: Symbols<'a>,
+    s: usize,
+    told: Told,
 }
 
-fn say_right(y: &Symbols<'_>, s: usize, told: Told, page: &mut Page) {
-    let side = right_of(y, s);
-    if !is_range(y, side) {
-        say_side(y, side, y.atom(s), words::THE_RIGHT_SIDE, told, page);
+impl Sides<'_> {
+    // The symbols of a side on the page: their bytes, and their size or type.
+    fn say_side(&self, side: Span, title: usize, page: &mut Page) {
+        let y = self.symbols;
+        let x = Trial {
+            symbols: y,
+            own: y.bytes(side),
+            atom: y.bytes(y.atom(self.s)),
+        };
+        page.say_of(title, 0, x.own.from, x.own.to);
+        match self.told {
+            Told::Sizes => page.say_of(words::A_SIZE, 0, x.size(), 0),
+            Told::Types => say_type(y.text, x.type_of(), page),
+        }
+    }
+
+    // The left side; of a pair before the operator both parts.
+    fn say_left(&self, page: &mut Page) {
+        let y = self.symbols;
+        let side = left_of(&y, self.s);
+        if y.kind_before(side.from) == codes::MAPLET {
+            let first = left_of(&y, side.from.saturating_sub(1));
+            self.say_side(first, words::THE_LEFT_SIDE, page);
+        }
+        self.say_side(side, words::THE_LEFT_SIDE, page);
+    }
+
+    fn say_right(&self, page: &mut Page) {
+        let side = right_of(&self.symbols, self.s);
+        if !is_range(&self.symbols, side) {
+            self.say_side(side, words::THE_RIGHT_SIDE, page);
+        }
     }
 }
 
@@ -151,8 +124,13 @@ pub fn say_sides(y: &Symbols<'_>, s: usize, told: Told, page: &mut Page) {
         page.say(words::A_BRACE_OF_SEVERAL_TYPES);
         return;
     }
+    let sides = Sides {
+        symbols: *y,
+        s,
+        told,
+    };
     if !y.is_prefix(s) {
-        say_left(y, s, told, page);
+        sides.say_left(page);
     }
-    say_right(y, s, told, page);
+    sides.say_right(page);
 }

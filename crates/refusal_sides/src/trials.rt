@@ -1,7 +1,9 @@
 // Trials of one side of an operator: the atom that the operator stands in is replaced by an equation with that side.
-use lexical::bounds::LARGEST_SIZE;
+use lexical::bounds::{LARGEST_SIZE, SYMBOLS};
+use lexical::codes;
 use refusal_hints::samples::{Sample, is_past};
 use refusals::{Fault, Refusal};
+use symbol_spans::{Symbols, is_name};
 use text_places::{Span, part, symbol_at};
 use tried_texts::tried;
 
@@ -16,10 +18,10 @@ const LARGEST: usize = LARGEST_SIZE as usize;
 // The bits of a size.
 const BITS: usize = 31;
 
-// A side that is tried: the text, the bytes of the side, and those of the atom that it stands in.
+// A side that is tried: the text and its symbols, the bytes of the side, and those of the atom that it stands in.
 #[derive(Clone, Copy)]
 pub struct Trial<'a> {
-    pub text: &'a [u8],
+    pub symbols: Symbols<'a>,
     pub own: Span,
     pub atom: Span,
 }
@@ -60,6 +62,8 @@ fn put_term(text: &[u8], t: Term, out: &mut Sample) {
 }
 
 // A digit as a byte.
+// Form 4: the sum begins with the last digit and has ten of them, so that all numbers make texts of one form. `itoa` of the kit writes the first digit first, and no zeros before it: there would
+// stand its buffer, its bytes in reverse, a chain of zeros behind them and a `zip` with the weights, in place of `% TEN` and `/= TEN`. A table of the weights has the lines of their `match`.
 fn digit(n: usize) -> u8 {
     b'0' + (n % TEN) as u8
 }
@@ -91,19 +95,24 @@ fn put_sum(number: usize, out: &mut Sample) {
     }
 }
 
+// Does the body of a given set begin at symbol s? An entry of the contents has no element.
+fn is_set(y: &Symbols<'_>, s: usize) -> bool {
+    y.kind(s) == codes::GIVEN && is_name(y.kind(s.saturating_add(2)))
+}
+
 impl Trial<'_> {
     // The side in brackets.
     fn bracketed(&self) -> Sample {
         let mut out = Sample::new();
         out.put(b'[');
-        out.put_all(part(self.text, self.own));
+        out.put_all(part(self.symbols.text, self.own));
         out.put(b']');
         out
     }
 
     // What reading answers with these words in the place of the side's atom.
     fn answer_with(&self, words: &Sample) -> Option<Fault> {
-        tried(self.text, self.atom, words.as_slice())
+        tried(self.symbols.text, self.atom, words.as_slice())
     }
 
     // Is the side of the type of a term? Refusals of passes before say nothing of it.
@@ -111,12 +120,45 @@ impl Trial<'_> {
         let mut words = self.bracketed();
         let sign = self.atom.from.saturating_add(words.as_slice().len());
         words.put(b'=');
-        put_term(self.text, t, &mut words);
+        put_term(self.symbols.text, t, &mut words);
         let misfit = Fault {
             refusal: Refusal::TypesMisfit,
             place: sign,
         };
         is_past(self.answer_with(&words), Refusal::NameInUse, misfit)
+    }
+
+    // The sets of pairs that the side is of, where their first parts are of the given set whose name stands at a byte.
+    fn pairs_from(&self, first: usize) -> Option<Term> {
+        let y = self.symbols;
+        (0..SYMBOLS)
+            .filter(|&s| is_set(&y, s))
+            .map(|s| Term::Pairs(first, y.start(s.saturating_add(1))))
+            .find(|&pairs| self.fits(pairs))
+    }
+
+    // The type of the given set at symbol s that the side is of.
+    fn type_by(&self, s: usize) -> Option<Term> {
+        let name = self.symbols.start(s.saturating_add(1));
+        let element = Term::Element(name, self.symbols.start(s.saturating_add(2)));
+        if self.fits(element) {
+            return Some(element);
+        }
+        let set = Term::Set(name);
+        if self.fits(set) {
+            return Some(set);
+        }
+        self.pairs_from(name)
+    }
+
+    // The type that the side is of.
+    pub(crate) fn type_of(&self) -> Option<Term> {
+        if self.fits(Term::Number) {
+            return Some(Term::Number);
+        }
+        (0..SYMBOLS)
+            .filter(|&s| is_set(&self.symbols, s))
+            .find_map(|s| self.type_by(s))
     }
 
     // Is the sum of the side and a number refused as too large?

@@ -8,7 +8,7 @@ use native.Mathlib.Omega.{arith}
 use borrow.Author.Tests.{lt-ltb}
 use Rattle.std.proofs.lemmas.Bool.{true≢false}
 use lib.ListN.{length, drop}
-use Rattle.std.specs.Prelude.{Result, Ok, Err}
+use Rattle.std.specs.Prelude.{Result, Ok, Err, Some, None}
 use Rattle.refusals.specs.Refusals.{number_of}
 use Rattle.refusals.specs.RefusalNames.{fault_is}
 use Rattle.refusals.specs.declared.Fault.{Fault}
@@ -67,8 +67,8 @@ module _ {text table rows firsts groups labels : List ℕ} {t : Result ℕ Fault
       is-reported (subst (λ (l : List ℕ). Writes 0 l before after r) (sym (ap reported h.reads)) (v.lines h.dossier h.held.arrays h.held.labelled h.many)) v.short
 
   -- the first line alone: nothing of a text that is refused, or for an operation that the dossier has not
-  pub refused-line : {x : Fault} (o : code.Obligation) (before : List ℕ) → t ≡ Err x → RefutedLine text o before before 0
-  refused-line o before e = record { bytes = λ d s i. absurd (subst IsRefusal (sym (text-faulty w e) ∙ s) tt); short = omega arith }
+  pub refused-line : {x : Fault} (o : code.Obligation) (before : List ℕ) → t ≡ Err x → RefutedLine text o before before None
+  refused-line o before e = record { bytes = λ d s i. absurd (subst IsRefusal (sym (text-faulty w e) ∙ s) tt); short = tt; same = refl }
 
   few : {k : ℕ} → t ≡ Ok k → (d : Dossier) → read text ≡ reading d → LabelsOf text labels d × (length d.operations ≤ 16)
   unfolding ReadAs
@@ -76,8 +76,8 @@ module _ {text table rows firsts groups labels : List ℕ} {t : Result ℕ Fault
       let h : ReadAs text table rows firsts groups labels (reading d) t = subst (λ (q : Reading). ReadAs text table rows firsts groups labels q t) s w.answer in
       (h.1.labelled, h.1.arrays.operations)
 
-  pub no_line : {k : ℕ} (o : code.Obligation) (before : List ℕ) → t ≡ Ok k → listed (obligation_is o) ≡ false → RefutedLine text o before before 0
-  no_line o before e g = record { bytes = λ d s i. absurd (true≢false (sym (listed-in d (obligation_is o) (few e d s).1 i) ∙ g)); short = omega arith }
+  pub no_line : {k : ℕ} (o : code.Obligation) (before : List ℕ) → t ≡ Ok k → listed (obligation_is o) ≡ false → RefutedLine text o before before None
+  no_line o before e g = record { bytes = λ d s i. absurd (true≢false (sym (listed-in d (obligation_is o) (few e d s).1 i) ∙ g)); short = tt; same = refl }
 
-  pub line-written : {k r : ℕ} {before after : List ℕ} (o : code.Obligation) → t ≡ Ok k → LineWritten text labels (obligation_is o) 0 before after r → RefutedLine text o before after r
-  line-written o e v = record { bytes = λ d s i. v.line d (few e d s).0 i; short = omega (arith, v.short) }
+  pub line-written : {k r : ℕ} {before after : List ℕ} (o : code.Obligation) → t ≡ Ok k → LineWritten text labels (obligation_is o) 0 before after r → RefutedLine text o before after (Some r)
+  line-written o e v = record { bytes = λ d s i. v.line d (few e d s).0 i; short = omega (arith, v.short); same = tt }

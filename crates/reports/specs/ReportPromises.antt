@@ -1,5 +1,5 @@
 -- What the report of a text promises: the bytes of document 01's report stand in front, and no other byte is touched.
-use Rattle.std.specs.Prelude.{◌≡◌, Bool, true, List, ◌++◌, ℕ, ◌+◌, ◌<◌, ◌≤◌, ltb, length, drop}
+use Rattle.std.specs.Prelude.{◌≡◌, Bool, true, List, ◌++◌, ℕ, ◌+◌, ◌<◌, ◌≤◌, ltb, length, drop, Option, IsSomeAnd, IfSome, IfNone}
 use Rattle.lexical.specs.Lists.{bytes}
 use Rattle.form.specs.Tree.{Dossier}
 use Rattle.static_rules.specs.Read.{reading, read}
@@ -25,10 +25,11 @@ ObligationIn d initialisation = Unit {0}
 ObligationIn d (applicability k) = k < length d.operations
 ObligationIn d (correctness k) = k < length d.operations
 
--- the first line of the report, for a text that is refuted with an obligation
-pub record RefutedLine (text : List ℕ) (o : code.Obligation) (before after : List ℕ) (r : ℕ) : Type 0 where
-  pub bytes : (d : Dossier) → read text ≡ reading d → ObligationIn d (obligation_is o) → Writes 0 (refuted_line d (obligation_is o)) before after r
-  pub short : r ≤ 39
+-- the first line of the report, for a text that is refuted with an obligation of its dossier: the length of the line; and no byte is touched where there is none
+pub record RefutedLine (text : List ℕ) (o : code.Obligation) (before after : List ℕ) (r : Option ℕ) : Type 0 where
+  pub bytes : (d : Dossier) → read text ≡ reading d → ObligationIn d (obligation_is o) → IsSomeAnd r (Writes 0 (refuted_line d (obligation_is o)) before after)
+  pub short : IfSome r (λ n. n ≤ 39)
+  pub same : IfNone r (after ≡ before)
 
 -- What the functions promise each other. Nothing below need be believed.
 

@@ -99,6 +99,8 @@ fn put_verdict(names: &Names<'_>, d: &Dossier<'_>, w: &mut Writer<'_>)
 }
 
 // The report of a text in front of the lent bytes, and its length. 1,536 KiB of stack are enough for every text, as for the calls (crates/checker).
+// Form 6: there is no heap, so that the caller lends the bytes; `Reported`, and the theorem `CodeReports` (crates/demands) over it, say of all of them what they are behind the call, and of
+// the length which of them are the report. A slice handed back would leave them lent for as long as it is used.
 pub fn report(text: &[u8], out: &mut [u8; REPORT]) -> usize
     ensures { Reported text.now out.old out.new result }
 {
@@ -129,17 +131,19 @@ fn is_listed(o: Obligation) -> bool
     }
 }
 
-// The first line of the report of a text that is refuted with an obligation.
-pub fn refuted_line(text: &[u8], o: Obligation, out: &mut [u8; FIRST_LINE]) -> usize
+// The first line of the report of a text that is refuted with an obligation, in front of the lent bytes, and its length; none of a text that is refused, and for an operation that no
+// dossier has.
+// Form 6: as at `report`.
+pub fn refuted_line(text: &[u8], o: Obligation, out: &mut [u8; FIRST_LINE]) -> Option<usize>
     ensures { RefutedLine text.now o out.old out.new result }
 {
     let mut a = Arrays::new();
     let answer = a.read(text);
     let Ok(_) = answer else {
-        return 0;
+        return None;
     };
     if !is_listed(o) {
-        return 0;
+        return None;
     }
     let names = Names {
         text,
@@ -147,5 +151,5 @@ pub fn refuted_line(text: &[u8], o: Obligation, out: &mut [u8; FIRST_LINE]) -> u
     };
     let mut w = Writer { out, at: 0 };
     put_refuted(&names, o, &mut w);
-    w.at
+    Some(w.at)
 }

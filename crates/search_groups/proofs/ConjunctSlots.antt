@@ -16,7 +16,7 @@ use Rattle.table_places.specs.StaticRulesScope.{Scope, binding, element_of}
 use Rattle.table_places.specs.StaticRulesNames.{domain_carrier}
 use Rattle.table_nodes.specs.TableByNumber.{next_slot, related_shape}
 use Rattle.table_places.specs.ResolvedTable.{Slots, placed, slot_of, name_table, domain_table, term_table, items_table, pairs_table, pred_table}
-use Rattle.search_groups.specs.Conjuncts.{used_term, used_items, used_pairs, used_pred}
+use Rattle.search_groups.specs.Conjuncts.{slot_list, used_term, used_items, used_pairs, used_pred}
 use Rattle.search_groups.specs.GroupPromises.{slot_here, slots_at}
 
 -- whole nodes with the slots u, whatever stands behind them
@@ -44,15 +44,11 @@ none_in : {k i a b : ℕ} → eqb k 2 ≡ false → Holds (node k i a b) []
 unfolding slots_at slot_here
 none_in {k} {i} {a} {b} e = holds (λ c. ap (λ (t : Bool). cond t (a ∷ []) [] ++ slots_at c) e)
 
-abbrev pub list_of : Option (Name × ℕ) → List ℕ
-list_of none = []
-list_of (some w) = w.1 ∷ []
-
 name-holds : (x : Name) (Γ : Scope) (W : Slots) (s : ℕ) → Holds (name_table Γ W x) (used_term (name x) W s)
 unfolding name_table used_term
 name-holds x Γ W s = on (slot_of W x) (element_of Γ.givens x)
   where
-    on : (o : Option (Name × ℕ)) (g : Option Given) → Holds (placed o g x) (list_of o)
+    on : (o : Option (Name × ℕ)) (g : Option Given) → Holds (placed o g x) (slot_list o)
     on (some w) g = slot
     on none none = none_in refl
     on none (some g) = none_in refl

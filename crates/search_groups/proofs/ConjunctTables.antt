@@ -3,13 +3,16 @@ use mathlib.Core.Path.{◌≡◌, refl, sym, ap, ap₂, ◌∙◌, subst}
 use mathlib.Core.List.{List, [], ◌∷◌, ◌++◌, append_assoc}
 use Prim.Native.Nat.{ℕ, ◌+◌, ◌-◌, ◌≤◌}
 use native.Mathlib.Omega.{arith}
-use lib.ListN.{length, get_or, length-append}
+use lib.ListN.{length, take, drop, get_or, length-append}
+use lib.Seq.{length-take-le}
+use Rattle.std.proofs.lemmas.List.{drop-take, take_rest}
 use borrow.Author.Tests.{leb-true, leb-false}
 use lib.Dec.{leb}
 use mathlib.Core.Bool.{◌&&◌}
 use Rattle.std.proofs.Common.{Option, Some, None, Bool, true, false}
 use Rattle.std.specs.Bool.{then_some}
 use Rattle.form.specs.Codes.{node}
+use Rattle.node_spans.specs.ParserSections.{PartOf}
 use Rattle.node_spans.specs.Spans.{Stands}
 use Rattle.table_nodes.specs.TableWalkPromises.{patch}
 use Rattle.search_groups.specs.Conjuncts.{last_in, conjunct_row}
@@ -71,6 +74,30 @@ middle-picked t from end m r room q e f g = subst (λ (o : Option ℕ). Middle t
     go true false h i = middle-none t from end (λ n k l u. omega (arith, leb-false m (end - 4) i))
     go false y h i = middle-none t from end (λ n k l u. omega (arith, leb-false from m h))
 
+-- the rows are those of the table that is cut at the end
+pub conjoined-cut : {t front : List ℕ} {from m n r : ℕ} {out after : List ℕ} → (m ≤ length t → front ≡ take m t) → Conjoined front from (length front) n out after r → Conjoined t from m n out after r
+conjoined-cut {t} {front} {from} {m} {n} {r} {out} {after} e c =
+    record { long = c.long; right = λ codes rows j s g o h. go codes rows j s (e s.inside) g o h }
+  where
+    go : (codes rows : List ℕ) → Conjoin from codes rows → Stands t from m codes → front ≡ take m t → m ≤ 65535 → length out ≤ 65535 → n + length rows ≤ length out → Wrote n rows out after r
+    go codes rows j s q g o h =
+        let w = s.ordered in
+        let l : length front ≡ m = ap length q ∙ length-take-le m t s.inside in
+        let k : from + (m - from) ≡ m = omega arith in
+        let d : drop from front ≡ take (m - from) (drop from t) = ap (drop from) (q ∙ ap (λ (i : ℕ). take i t) (sym k)) ∙ drop-take from (m - from) t in
+        let f : length front - from ≡ m - from = ap (λ (i : ℕ). i - from) l in
+        c.right codes rows j
+        (record {
+          ordered = omega arith;
+          inside = omega arith;
+          stands = take_rest front from ∙ d ∙ s.stands;
+        }) (omega arith) o h
+
+pub conjoined-front : {t front : List ℕ} {from m n r : ℕ} {out after : List ℕ} → PartOf t 0 m front → Conjoined front from (length front) n out after r → Conjoined t from m n out after r
+conjoined-front {t} {front} {from} {m} p c =
+    let e : m - 0 ≡ m = omega arith in
+    conjoined-cut (λ h. p.part (omega arith) h ∙ ap (λ (i : ℕ). take i t) e) c
+
 -- what was found is inside
 pub middle-some : {t : List ℕ} {from end m : ℕ} {r : Option ℕ} → Middle t from end r → r ≡ Some m → Middle t from end (Some m)
 middle-some {t} {from} {end} w e = subst (λ (o : Option ℕ). Middle t from end o) e w
@@ -128,10 +155,6 @@ row_put t from end n out after e l =
       long = ap length e ∙ patch-length n (conjunct_row from end (slots_at (piece t from end))) out l;
       right = λ a b c d f. record { written = e; behind = refl };
     }
-
-pub row-none : (t : List ℕ) (from end n : ℕ) (out : List ℕ) → (from ≤ end → end ≤ length t → end ≤ 65535 → length out ≤ 65535 → n + 8 ≤ length out → ⊥)
-    → RowPut t from end n out out n
-row-none t from end n out h = record { long = refl; right = λ a b c d e. absurd (h a b c d e) }
 
 pub conjoined-one : {t : List ℕ} {from end n r : ℕ} {out after : List ℕ} → Middle t from end None → RowPut t from end n out after r → Conjoined t from end n out after r
 unfolding conjunct_row

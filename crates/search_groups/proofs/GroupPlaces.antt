@@ -5,8 +5,9 @@ use Prim.Native.Nat.{ℕ, suc, ◌+◌, ◌-◌, ◌%◌, ◌≤◌, ◌<◌}
 use native.Mathlib.Omega.{arith}
 use lib.ListN.{length, take, drop, get_or, set, replicate, length-set, length-append, length-drop, length-replicate, drop_of_length-le}
 use lib.Seq.{drop-drop, length-take-le, get_or-take, get_or-drop}
-use Rattle.std.proofs.Common.{Option, Some, None, Bor, inl, inr}
-use Rattle.std.specs.Slice.{IsGetRangeResult}
+use Rattle.std.proofs.Common.{inl, inr, ◌⊎◌}
+use Rattle.std.proofs.lemmas.Bool.{cases_lt}
+use Rattle.node_spans.specs.ParserSections.{PartOf}
 use Rattle.node_spans.specs.Spans.{Stands, span}
 use Rattle.table_nodes.specs.TableWalkPromises.{patch}
 use Rattle.table_places.specs.DossierTable.{row}
@@ -15,28 +16,24 @@ use Rattle.table_nodes.proofs.Pieces.{patch-none, patch-set, patch-length, patch
 use Rattle.node_spans.proofs.StandingParts.{stands-length, stands-right, stands_at}
 use Rattle.search_groups.proofs.GroupPicks.{row-length}
 
--- the part of the nodes between two places, as `get` gives it
+-- the part of the nodes between two places
 pub record Part (nodes : List ℕ) (from to : ℕ) (code : List ℕ) : Type 0 where
   pub long : length code ≡ to - from
   pub at : (k : ℕ) → k < length code → get_or code k 0 ≡ get_or nodes (from + k) 0
 
-pub part_of : {nodes : List ℕ} {from to : ℕ} {o : Option (Bor (List ℕ))} {b : Bor (List ℕ)} → IsGetRangeResult nodes from to o → o ≡ Some b → Part nodes from to b.now
-part_of {nodes} {from} {to} {o} {b} g e =
-    let h = subst (IsGetRangeResult nodes from to) e g in
-    let long : length b.now ≡ to - from = ap length h.0.2 ∙ length-take-le (to - from) (drop from nodes) (omega (arith, h.0.0, h.0.1, length-drop from nodes)) in
-    record {
-      long = long;
-      at = λ k l. ap (λ (y : List ℕ). get_or y k 0) h.0.2 ∙ get_or-take (to - from) (drop from nodes) k 0 (omega arith) ∙ get_or-drop from nodes k 0;
-    }
-
-pub picked-none : {nodes : List ℕ} {from to : ℕ} {o : Option (Bor (List ℕ))} (e : ℕ) (out : List ℕ) → IsGetRangeResult nodes from to o → o ≡ None → PickedAll nodes from to e out out 0
-picked-none {nodes} {from} {to} e out g n =
-    let h = subst (IsGetRangeResult nodes from to) n g in
-    record {
-      few = omega arith;
-      long = refl;
-      right = λ codes qs s p l. let o = s.ordered in let i = s.inside in elim h.0 [ inl w ↦ absurd (omega arith) | inr w ↦ absurd (omega arith) ];
-    }
+-- as `between` gives it, where it gives any
+pub part_in : {nodes : List ℕ} {from to : ℕ} {code : List ℕ} → PartOf nodes from to code → 1 ≤ length code → Part nodes from to code
+part_in {nodes} {from} {to} {code} p some = on (cases_lt to from) (cases_lt (length nodes) to)
+  where
+    on : (to < from) ⊎ (from ≤ to) → (length nodes < to) ⊎ (to ≤ length nodes) → Part nodes from to code
+    on (inl a) b = let e = ap length (p.none (λ c d. omega arith)) in absurd (omega arith)
+    on (inr a) (inl b) = let e = ap length (p.none (λ c d. omega arith)) in absurd (omega arith)
+    on (inr a) (inr b) =
+        let e = p.part a b in
+        record {
+          long = ap length e ∙ length-take-le (to - from) (drop from nodes) (omega (arith, length-drop from nodes));
+          at = λ k l. let h = ap length e in let t = length-take-le (to - from) (drop from nodes) (omega (arith, length-drop from nodes)) in ap (λ (y : List ℕ). get_or y k 0) e ∙ get_or-take (to - from) (drop from nodes) k 0 (omega arith) ∙ get_or-drop from nodes k 0;
+        }
 
 -- behind c picked ones: all come of those written and of those still to be read
 pub record Left (nodes : List ℕ) (to e at : ℕ) (qs out after : List ℕ) (c : ℕ) : Type 0 where

@@ -1,18 +1,18 @@
 -- Where the values of names are found: the places that a table shows for each name, and what a binder makes of both.
-use mathlib.Core.Path.{◌≡◌, refl, ap, ◌∙◌, sym, subst}
-use mathlib.Core.Bool.{Bool, true, false, cond}
+use mathlib.Core.Path.{◌≡◌, refl, ap, ◌∙◌, sym}
+use mathlib.Core.Bool.{Bool, true, false, cond, false≢true}
 use mathlib.Core.List.{List, [], ◌∷◌, map}
 use mathlib.Core.Option.{Option, none, some, none-ne-some}
 use Prim.Native.Nat.{ℕ, ◌+◌, ◌-◌, ◌≤◌, ◌<◌}
 use native.Mathlib.Omega.{arith}
 use lib.Dec.{ltb}
 use lib.ListN.{length, set, length-set}
-use lib.Seq.{get_or-set_same, get_or-set_other}
+use lib.Seq.{get_or-set_other}
 use borrow.Author.Tests.{ltb-true, lt-ltb, le-ltb}
-use Rattle.lexical.specs.Lists.{same, any, find}
+use Rattle.lexical.specs.Lists.{any, find}
 use Rattle.refusals.specs.Refusals.{fault, name_unknown}
-use Rattle.lexical.specs.Symbols.{Name, Ending, no_ending, prime, query, shriek}
-use Rattle.lexical.proofs.WordLaws.{same_refl, same_true, same_turned}
+use Rattle.lexical.specs.Symbols.{Name, no_ending}
+use Rattle.lexical.proofs.WordLaws.{same_refl}
 use Rattle.form.specs.Tree.{Letters, Given, elements, name}
 use Rattle.form.specs.Codes.{Numbering, node, number_of_name, name_number}
 use Rattle.table_places.specs.StaticRulesCarriers.{Carrier, Variable, same_name, plain}
@@ -21,8 +21,7 @@ use Rattle.table_places.specs.StaticRulesScope.{Scope, binding, type_of_name, el
 use Rattle.table_places.specs.StaticRulesNames.{of_name, judge_term}
 use Rattle.type_rules.specs.TypesByNumber.{entry}
 use Rattle.table_places.proofs.NamesReachTables.{Numbered}
-use Rattle.table_places.proofs.NamesTypesAgreeTypes.{no-yes}
-use Rattle.table_places.proofs.NamesTypesAgreeScope.{any-there, find-here, find-there, apart}
+use Rattle.table_places.proofs.NamesTypesAgreeScope.{any-there, find-here, find-there, each-name, written-entry}
 use Rattle.table_nodes.specs.TableByNumber as table
 use Rattle.table_nodes.specs.TableByNumber.{Places, next_slot}
 use Rattle.table_places.specs.ResolvedTable as resolved
@@ -67,7 +66,7 @@ any_none {A} f x (a ∷ bs) e = on (same_name (f a) x) refl (any_none f x bs) e
   where
     on : (b : Bool) → same_name (f a) x ≡ b → (any (λ (y : Name). same_name y x) (map f bs) ≡ false → find (λ (a : A). same_name (f a) x) bs ≡ none)
         → ◌≡◌ {A = Bool} (elim b [ true ↦ true | false ↦ any (λ (y : Name). same_name y x) (map f bs) ]) false → find (λ (a : A). same_name (f a) x) (a ∷ bs) ≡ none
-    on true p r h = no-yes (sym h)
+    on true p r h = absurd (false≢true (sym h))
     on false p r h = find-there (λ (a : A). same_name (f a) x) a bs p ∙ r h
 
 slot_placed : (n w : ℕ) → n ≡ w → w < 64 → table.placed n ≡ node 2 0 w 0
@@ -117,34 +116,19 @@ next_small s = on (ltb s 63) refl
 
 module _ (ρ : Numbering) (P : Letters → Type 0) (ν : Numbered ρ P) (Γ : Scope) (W' : Slots) (W : Places) (w : PlacesShown ρ P Γ W' W)
     (x : Letters) (px : P x) (c : Carrier) (s : ℕ) (small : s ≤ 63) where
-  other : (y : Name) → (name_number ρ y ≡ number_of_name ρ x no_ending → ⊥) → entry (set W (number_of_name ρ x no_ending) s) (name_number ρ y) ≡ entry W (name_number ρ y)
-  other y h = get_or-set_other W (number_of_name ρ x no_ending) (name_number ρ y) s 0 h
-
-  this : entry (set W (number_of_name ρ x no_ending) s) (number_of_name ρ x no_ending) ≡ s
-  unfolding number_of_name
-  this = get_or-set_same W (number_of_name ρ x no_ending) s 0 (omega (arith, ν.small x px, w.long))
-
   PlaceAt : Name → Type 0
   PlaceAt y = PlaceIs (slot_of ((plain x, s) ∷ W') y) (element_of Γ.givens y) y (entry (set W (number_of_name ρ x no_ending) s) (name_number ρ y))
 
   other_place : (y : Name) → P y.letters → same_name (plain x) y ≡ false → (name_number ρ y ≡ number_of_name ρ x no_ending → ⊥) → PlaceAt y
   unfolding PlaceAt
-  other_place y py e h = rw (slot-there (plain x, s) W' y e, other y h) (w.places y py)
+  other_place y py e h = rw (slot-there (plain x, s) W' y e, get_or-set_other W _ _ s 0 h) (w.places y py)
 
   this_place : PlaceAt (plain x)
   unfolding PlaceAt same_name
-  this_place = rw (slot-here (plain x, s) W' (plain x) (same_refl x), this) (refl, omega arith)
+  this_place = rw (slot-here (plain x, s) W' (plain x) (same_refl x), written-entry ρ P ν x px W s w.long) (refl, omega arith)
 
   bound-place : (y : Name) → P y.letters → PlaceAt y
-  unfolding number_of_name same_name
-  bound-place y py = on y.ending (same y.letters x) refl
-    where
-      on : (e : Ending) (b : Bool) → same y.letters x ≡ b → PlaceAt (record { letters = y.letters; ending = e })
-      on no_ending true q = subst (λ (l : Letters). PlaceAt (plain l)) (sym (same_true y.letters x q)) this_place
-      on no_ending false q = other_place (plain y.letters) py (same_turned x y.letters q) (λ e. apart ρ P ν x y.letters px py q (omega arith))
-      on prime b q = other_place (record { letters = y.letters; ending = prime }) py refl (omega arith)
-      on query b q = other_place (record { letters = y.letters; ending = query }) py refl (omega arith)
-      on shriek b q = other_place (record { letters = y.letters; ending = shriek }) py refl (omega arith)
+  bound-place = each-name ρ P ν x px PlaceAt this_place other_place
 
   -- the names in reach inside a binder are shown by the table with the bound name's slot in it
   pub bound-placed : PlacesShown ρ P (binding Γ x c) ((plain x, s) ∷ W') (set W (number_of_name ρ x no_ending) s)

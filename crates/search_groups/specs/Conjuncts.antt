@@ -11,7 +11,7 @@ use Rattle.table_nodes.specs.TableByNumber.{next_slot}
 use Rattle.table_places.specs.ResolvedTable.{Slots, pred_table}
 
 -- the slots of the names that a tree mentions, in the order of the text; s is the slot of the next bound name
-abbrev slot_list : Option (Name × ℕ) → List ℕ
+abbrev pub slot_list : Option (Name × ℕ) → List ℕ
 slot_list none = []
 slot_list (some w) = w.1 ∷ []
 

@@ -1,4 +1,6 @@
 // The conjuncts of each predicate, read off the table: where each one's nodes are, and the last variable of every group that it mentions.
+// Form 5: the table is cut where the nodes in question end, and `from` is where they begin. A struct of the two would be made anew at each of the three calls of `conjoin`,
+// `&Piece { table: &table[..m], from }` for `&table[..m], from`.
 ghost use Rattle.std.specs.Prelude.{◌≡◌, [], ◌∷◌, ◌+◌, ◌≤◌, ◌<◌, length};
 ghost use Rattle.search_groups.specs.Conjuncts.{last_in, conjunct_row};
 ghost use Rattle.search_groups.specs.GroupPromises.{slots_at, piece, Noted, LastsOf, Middle, RowPut, Conjoined};
@@ -8,7 +10,7 @@ use crate::contexts::{ABSTRACT_STATE, CONCRETE_STATE, OPERATIONS, RETRIEVE, SIDE
 use form::node;
 use form::operator_codes::AND;
 use lexical::bounds;
-use node_spans::{Parts, put_number, span};
+use node_spans::{Parts, between, put_number, span};
 use table_nodes::{slots, table_shapes};
 
 // How many variables a state has at most; inputs and outputs an operation.
@@ -72,27 +74,26 @@ fn noted(l: Mentioned, k: u16, a: u16) -> Mentioned
     }
 }
 
-// Those of the nodes between two places, in one walk.
-fn lasts(table: &[u16], from: usize, end: usize) -> Mentioned
-    requires { (from ≤ end) × (end ≤ length table.now) × (end ≤ 65535) }
-    ensures { LastsOf (slots_at (piece table.now from end)) result }
+// Those of some nodes, in one walk.
+fn lasts(nodes: &[u16]) -> Mentioned
+    ensures { LastsOf (slots_at nodes.now) result }
 {
     let mut best = Mentioned::default();
-    for n in table[from..end].chunks_exact(node::SIZE) {
+    for n in nodes.chunks_exact(node::SIZE) {
         best = noted(best, n[node::SHAPE], n[node::A]);
     }
     best
 }
 
-// The row of one conjunct.
-fn write(table: &[u16], from: usize, end: usize, row: &mut [u16])
-    requires { (from ≤ end) × (end ≤ length table.now) × (end ≤ 65535) × (length row.old ≡ 8) }
-    ensures { row.new ≡ conjunct_row from end (slots_at (piece table.now from end)) }
+// The row of one conjunct, whose nodes are those of the table from a place on.
+fn write(table: &[u16], from: usize, row: &mut [u16])
+    requires { (from ≤ length table.now) × (length table.now ≤ 65535) × (length row.old ≡ 8) }
+    ensures { row.new ≡ conjunct_row from (length table.now) (slots_at (piece table.now from (length table.now))) }
 {
-    let l = lasts(table, from, end);
+    let l = lasts(&table[from..]);
     row.copy_from_slice(&[
         from as u16,
-        end as u16,
+        table.len() as u16,
         l.abstracts,
         l.concretes,
         l.inputs,
@@ -103,15 +104,14 @@ fn write(table: &[u16], from: usize, end: usize, row: &mut [u16])
 }
 
 // Where the left part of an `and` ends; none where the last node is no `and`.
-fn middle(table: &[u16], from: usize, end: usize) -> Option<usize>
-    ensures { Middle table.now from end result }
+fn middle(table: &[u16], from: usize) -> Option<usize>
+    ensures { Middle table.now from (length table.now) result }
 {
-    let at = end.checked_sub(node::SIZE)?;
-    let n = table.get(at..end)?;
-    if n[node::SHAPE] != table_shapes::CONNECTED || n[node::A] != AND {
+    let at = table.len().checked_sub(node::SIZE)?;
+    if table[at + node::SHAPE] != table_shapes::CONNECTED || table[at + node::A] != AND {
         return None;
     }
-    let m = usize::from(n[node::PLACE]);
+    let m = usize::from(table[at + node::PLACE]);
     (from..=at).contains(&m).then_some(m)
 }
 
@@ -124,34 +124,33 @@ struct Rows<'a> {
 
 impl<'a> Rows<'a> {
     // The row of one conjunct, where there is room for it.
-    fn add(&mut self, table: &[u16], from: usize, end: usize)
+    fn add(&mut self, table: &[u16], from: usize)
         ensures same_rows { self.new.out.ghost_name ≡ self.old.out.ghost_name }
-        ensures put { RowPut table.now from end self.old.at self.old.out.now self.new.out.now self.new.at }
+        ensures put { RowPut table.now from (length table.now) self.old.at self.old.out.now self.new.out.now self.new.at }
     {
         let room = self.out.len();
-        if from <= end
-            && end <= table.len()
-            && end <= LARGEST
+        if from <= table.len()
+            && table.len() <= LARGEST
             && room <= LARGEST
             && ROW <= room
             && self.at <= room - ROW
         {
-            write(table, from, end, &mut self.out[self.at..self.at + ROW]);
+            write(table, from, &mut self.out[self.at..self.at + ROW]);
             self.at += ROW;
         }
     }
 
-    // The rows of the conjuncts of the predicate whose nodes stand between two places.
-    fn conjoin(&mut self, table: &[u16], from: usize, end: usize)
+    // The rows of the conjuncts of the predicate whose nodes are those of the table from a place on.
+    fn conjoin(&mut self, table: &[u16], from: usize)
         ensures same_rows { self.new.out.ghost_name ≡ self.old.out.ghost_name }
-        ensures put { Conjoined table.now from end self.old.at self.old.out.now self.new.out.now self.new.at }
+        ensures put { Conjoined table.now from (length table.now) self.old.at self.old.out.now self.new.out.now self.new.at }
     {
-        if let Some(m) = middle(table, from, end) {
-            self.conjoin(table, from, m);
-            self.conjoin(table, m, end - node::SIZE);
+        if let Some(m) = middle(table, from) {
+            self.conjoin(&table[..m], from);
+            self.conjoin(&table[..table.len() - node::SIZE], m);
             return;
         }
-        self.add(table, from, end);
+        self.add(table, from);
     }
 }
 
@@ -178,7 +177,7 @@ fn context(p: &Parts<'_>, j: usize, rows: &mut Rows<'_>)
 {
     let from = p.span(j);
     let end = p.span(j + 1);
-    rows.conjoin(p.nodes, from + node::SIZE, end);
+    rows.conjoin(between(p.nodes, 0, end), from + node::SIZE);
 }
 
 // All contexts: how many numbers stand before the rows of each, and these.

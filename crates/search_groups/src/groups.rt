@@ -5,7 +5,7 @@ ghost use Rattle.search_groups.specs.GroupPromises.{Picked, PickedAll, GroupPut,
 use form::name_endings::{INPUT, OUTPUT, PLAIN};
 use form::node;
 use lexical::{bounds, endings};
-use node_spans::{Parts, span};
+use node_spans::{Parts, between, span};
 
 // How many variables a group has at most. A row has one number more. In front are the rows of both states, the abstract one first; behind them each operation has two, of its inputs and of its outputs.
 // Form 1: limits of document 01 and lengths made of them, no kinds.
@@ -44,9 +44,7 @@ fn picked(nodes: &[u16], from: usize, to: usize, ending: u16, places: &mut [u16]
     requires { (from ≤ 65535) × (to ≤ 65535) × (length places.old ≤ 65535) }
     ensures { PickedAll nodes.now from to ending places.old places.new result }
 {
-    let Some(code) = nodes.get(from..to) else {
-        return 0;
-    };
+    let code = between(nodes, from, to);
     let mut c: usize = 0;
     for (k, d) in code.chunks_exact(node::DECLARATION).enumerate() {
         c = pick(d[node::A], from + node::DECLARATION * k, ending, c, places);
@@ -77,6 +75,7 @@ fn operation(p: &Parts<'_>, k: usize, rows: &mut [u16])
 fn operation_rows(p: &Parts<'_>, out: &mut [u16; GROUPS])
     ensures { RowsPut p.now.nodes.now p.now.spans.now p.now.operations out.old out.new }
 {
+    // Form 3: what the library promises of `chunks_exact_mut` says nothing of what the array ends as, and that is what is promised here.
     for k in 0..p.operations.min(span::MOST) {
         let at = STATES_ROWS + OPERATION_ROWS * k;
         operation(p, k, &mut out[at..at + OPERATION_ROWS]);

@@ -5,6 +5,7 @@
 // same four clauses; `store` and `aim` take the slots alone, `nest::sweep` makes the memory and is lent the slots.
 // `slot < 38`: as a type it would be made in `seek` and in `store`, which takes any caller's number, each time from the fact that is asked there now, and be opened where the four small
 // functions that ask it compare or count.
+// That u is one of the five searches: as in `plans`.
 #![tactic(auto)]
 
 ghost use Rattle.std.specs.Prelude.{◌≡◌, ◌+◌, ◌<◌, ◌≤◌, MatchOption};

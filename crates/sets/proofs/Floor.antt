@@ -1,116 +1,54 @@
--- Division that rounds toward minus infinity, from the machine's, which rounds toward zero. Assumes nothing.
+-- Division that rounds toward minus infinity, from the library's whose remainder is not negative. Assumes nothing.
 use mathlib.Core.Path.{◌≡◌, refl, sym, ap, ap₂, subst, ◌∙◌}
-use mathlib.Core.Bool.{Bool, true, false, cond, beq}
+use mathlib.Core.Bool.{Bool, true, false, cond}
 use Prim.Native.Nat.{ℕ, zero, suc, ◌+◌, ◌-◌, ◌*◌, ◌/◌, ◌%◌, ◌^◌, ◌<◌, ◌≤◌}
-use native.Mathlib.Nat.{div-add-mod', suc-mul, mod-lt, div-le_self, div-zero, div-lt_iff_lt-mul, le-mul_of_pos_right, le_of_suc-le-suc, lt_of_le_of_lt, lt_of_lt_of_le, zero-lt-suc, mul-le-mul}
+use native.Mathlib.Nat.{div-add-mod', suc-mul, mod-lt, div-le_self, div-zero, zero-div, div-eq_of_lt, div-lt_iff_lt-mul, le-mul_of_pos_right, le_of_suc-le-suc, lt_of_le_of_lt, lt_of_lt_of_le, zero-lt-suc, mul-le-mul, pos_of_ne-zero}
 use native.Mathlib.Omega.{arith}
 use lib.Arith.{digits_div}
 use lib.Dec.{ltb, lit<, lit≤}
-use lib.IntN.{ℤ, pos, negsuc, neg_ℤ, nat_abs, sub_ℕ, ◌+ℤ◌, ◌-ℤ◌, ◌*ℤ◌, -ℤ_one}
-use lib.Signed.{mag, mag_rem, quot_z, rem_z, lt_z, nat_abs-le}
-use borrow.Author.Tests.{ltb-true, le-ltb}
+use lib.IntN.{ℤ, pos, negsuc, neg_ℤ, nat_abs, sub_ℕ, ◌+ℤ◌, ◌-ℤ◌, ◌*ℤ◌, +ℤ_idl}
+use lib.Signed.{mag, quot_z, lt_z, nat_abs-le}
+use borrow.Author.Tests.{ltb-true}
 use mir.Syntax.{w32, w64}
 use mir.Val.{SFits, of_z, to_z}
 use mir.Facts.{to_z-of_z}
+use Rattle.std.specs.Prelude.{Option, None, Some, SomeIff}
+use Rattle.std.specs.Option.{unwrap_or}
+use Rattle.std.specs.Int.{CanDivide, int_div_euclid}
 use Rattle.sets.specs.Division.{floor_div, floor_mod}
 
--- ---- of natural numbers
+-- ---- of integers: by a divisor from 0 on the remainder is not negative; by one below 0 both signs are turned
 
-up-even : (a b : ℕ) → a % suc b ≡ 0 → (a + b) / suc b ≡ a / suc b
-up-even a b e =
-    let h : a + b ≡ a / suc b * suc b + b = omega (arith, div-add-mod' a (suc b)) in
-    ap (λ (n : ℕ). n / suc b) h ∙ digits_div (a / suc b) {m = suc b} {r = b} (omega arith)
-
-up-odd : (a b j : ℕ) → a % suc b ≡ suc j → (a + b) / suc b ≡ suc (a / suc b)
-up-odd a b j e =
+up-suc : (a b : ℕ) → (suc a + b) / suc b ≡ suc (a / suc b)
+up-suc a b =
     let l : a % suc b < suc b = mod-lt a (zero-lt-suc b) in
-    let h : a + b ≡ suc (a / suc b) * suc b + j = omega (arith, div-add-mod' a (suc b), suc-mul (a / suc b) (suc b)) in
-    ap (λ (n : ℕ). n / suc b) h ∙ digits_div (suc (a / suc b)) {m = suc b} {r = j} (omega arith)
+    let h : suc a + b ≡ suc (a / suc b) * suc b + a % suc b = omega (arith, div-add-mod' a (suc b), suc-mul (a / suc b) (suc b)) in
+    ap (λ (n : ℕ). n / suc b) h ∙ digits_div (suc (a / suc b)) {m = suc b} {r = a % suc b} l
 
-down_odd : (a b j : ℕ) → 0 < b → suc a % b ≡ suc j → suc a / b ≡ a / b
-down_odd a b j p e =
-    let l : suc a % b < b = mod-lt (suc a) p in
-    let h : a ≡ suc a / b * b + j = omega (arith, div-add-mod' (suc a) b) in
-    sym (ap (λ (n : ℕ). n / b) h ∙ digits_div (suc a / b) {m = b} {r = j} (omega arith))
+up-zero : (b : ℕ) → (0 + b) / suc b ≡ 0
+up-zero b = div-eq_of_lt (omega arith)
 
-down-even : (a b : ℕ) → 0 < b → suc a % b ≡ 0 → suc a / b ≡ suc (a / b)
-down-even a b p e = go (suc a / b) (omega (arith, div-add-mod' (suc a) b))
-  where
-    go : (q : ℕ) → suc a ≡ q * b → q ≡ suc (a / b)
-    go zero h = absurd (let z : 0 * b ≡ 0 = omega arith in omega arith)
-    go (suc q) h =
-        let k : a ≡ q * b + (b - 1) = omega (arith, h ∙ suc-mul q b) in
-        ap suc (sym (ap (λ (n : ℕ). n / b) k ∙ digits_div q {m = b} {r = b - 1} (omega arith)))
-
--- ---- of integers: what the signs of the remainder and of the divisor say of the quotient
-
-neg_pred : (n : ℕ) → neg_ℤ (pos n) -ℤ pos 1 ≡ negsuc n
-neg_pred zero = -ℤ_one (pos zero)
-neg_pred (suc n) = -ℤ_one (negsuc n)
-
-neg_zero : (n : ℕ) → neg_ℤ (pos n) ≡ pos 0 → n ≡ 0
-neg_zero zero h = refl
-neg_zero (suc n) h = absurd (let z : ◌≡◌ {A = ℕ} 0 1 = cc in omega arith)
-
-neg_less : (n : ℕ) → (n ≡ 0 → ⊥) → lt_z (neg_ℤ (pos n)) (pos 0) ≡ true
-neg_less zero h = absurd (h refl)
-neg_less (suc n) h = refl
-
-neg_not_less : (n : ℕ) → lt_z (neg_ℤ (pos n)) (pos 0) ≡ false → n ≡ 0
-neg_not_less zero h = refl
-neg_not_less (suc n) h = absurd (let z : ◌≡◌ {A = ℕ} 0 1 = cc in omega arith)
-
-none_below : (n : ℕ) → ltb n 0 ≡ false
-none_below n = le-ltb n 0 (omega arith)
-
-some : (b : ℕ) → (pos b ≡ pos 0 → ⊥) → 0 < b
-some zero d = absurd (d refl)
-some (suc b) d = zero-lt-suc b
-
-even-neg : (a b : ℕ) → 0 < b → suc a % b ≡ 0 → neg_ℤ (pos (suc a / b)) ≡ negsuc (a / b)
-even-neg a b p e = ap (λ (n : ℕ). neg_ℤ (pos n)) (down-even a b p e)
-
-odd_neg : (a b m : ℕ) → 0 < b → suc a % b ≡ m → (m ≡ 0 → ⊥) → neg_ℤ (pos (suc a / b)) -ℤ pos 1 ≡ negsuc (a / b)
-odd_neg a b zero p e f = absurd (f refl)
-odd_neg a b (suc j) p e f = neg_pred (suc a / b) ∙ ap negsuc (down_odd a b j p e)
-
-odd_pos : (a b m : ℕ) → a % suc b ≡ m → (m ≡ 0 → ⊥) → neg_ℤ (pos (a / suc b)) -ℤ pos 1 ≡ neg_ℤ (pos ((a + b) / suc b))
-odd_pos a b zero e f = absurd (f refl)
-odd_pos a b (suc j) e f = neg_pred (a / suc b) ∙ ap (λ (n : ℕ). neg_ℤ (pos n)) (sym (up-odd a b j e))
-
-exact : (x y : ℤ) → (y ≡ pos 0 → ⊥) → rem_z x y ≡ pos 0 → quot_z x y ≡ floor_div x y
+kept-signs : (x y : ℤ) → lt_z y (pos 0) ≡ false → int_div_euclid x y ≡ floor_div x y
 unfolding floor_div
-exact (pos a) (pos b) d e = refl
-exact (pos a) (negsuc b) d e = ap (λ (n : ℕ). neg_ℤ (pos n)) (sym (up-even a b (let z : a % suc b ≡ 0 = cc in z)))
-exact (negsuc a) (pos b) d e = even-neg a b (some b d) (neg_zero (suc a % b) e)
-exact (negsuc a) (negsuc b) d e = refl
+kept-signs (pos a) (pos b) h = refl
+kept-signs (negsuc a) (pos b) h = refl
+kept-signs x (negsuc b) h = absurd (let z : ◌≡◌ {A = ℕ} 0 1 = cc in omega arith)
 
--- a remainder of the divisor's sign: the quotient is rounded down already
-same_sign : (x y : ℤ) → (y ≡ pos 0 → ⊥) → lt_z (rem_z x y) (pos 0) ≡ lt_z y (pos 0) → quot_z x y ≡ floor_div x y
+turned-signs : (x y : ℤ) → lt_z y (pos 0) ≡ true → int_div_euclid (neg_ℤ x) (neg_ℤ y) ≡ floor_div x y
 unfolding floor_div
-same_sign (pos a) (pos b) d e = refl
-same_sign (pos a) (negsuc b) d e = absurd (let z : a % suc b < 0 = ltb-true (a % suc b) 0 e in omega arith)
-same_sign (negsuc a) (pos b) d e = even-neg a b (some b d) (neg_not_less (suc a % b) (e ∙ none_below b))
-same_sign (negsuc a) (negsuc b) d e = refl
+turned-signs x (pos b) h = absurd (let z : b < 0 = ltb-true b 0 h in omega arith)
+turned-signs (pos zero) (negsuc b) h = ap pos (zero-div (suc b)) ∙ sym (ap (λ (n : ℕ). neg_ℤ (pos n)) (up-zero b))
+turned-signs (pos (suc a)) (negsuc b) h = sym (ap (λ (n : ℕ). neg_ℤ (pos n)) (up-suc a b))
+turned-signs (negsuc a) (negsuc b) h = refl
 
--- a remainder of the other sign: it is one too large
-other_sign : (x y : ℤ) → (y ≡ pos 0 → ⊥) → (rem_z x y ≡ pos 0 → ⊥) → (lt_z (rem_z x y) (pos 0) ≡ lt_z y (pos 0) → ⊥) → quot_z x y -ℤ pos 1 ≡ floor_div x y
-unfolding floor_div
-other_sign (pos a) (pos b) d f e = absurd (e (none_below (a % b) ∙ sym (none_below b)))
-other_sign (pos a) (negsuc b) d f e = odd_pos a b _ refl (λ z. f (ap pos z))
-other_sign (negsuc a) (pos b) d f e = odd_neg a b _ (some b d) refl (λ z. f (ap (λ (n : ℕ). neg_ℤ (pos n)) z))
-other_sign (negsuc a) (negsuc b) d f e = absurd (e (neg_less (suc a % suc b) (λ z. f (ap (λ (n : ℕ). neg_ℤ (pos n)) z))))
+-- by 0 it is -1 below 0 and 0 from 0 on
+pub zero-below : (x : ℤ) → lt_z x (pos 0) ≡ true → negsuc 0 ≡ int_div_euclid x (pos 0)
+zero-below (pos a) h = absurd (let z : a < 0 = ltb-true a 0 h in omega arith)
+zero-below (negsuc a) h = sym (ap negsuc (div-zero a))
 
--- by 0 the definition gives -1 below 0 and 0 from 0 on
-pub zero-below : (x y : ℤ) → y ≡ pos 0 → lt_z x (pos 0) ≡ true → negsuc 0 ≡ floor_div x y
-unfolding floor_div
-zero-below (pos a) y e h = absurd (let z : a < 0 = ltb-true a 0 h in omega arith)
-zero-below (negsuc a) y e h = sym (ap (floor_div (negsuc a)) e ∙ ap negsuc (div-zero a))
-
-pub zero-above : (x y : ℤ) → y ≡ pos 0 → lt_z x (pos 0) ≡ false → pos 0 ≡ floor_div x y
-unfolding floor_div
-zero-above (pos a) y e h = sym (ap (floor_div (pos a)) e ∙ ap pos (div-zero a))
-zero-above (negsuc a) y e h = absurd (let z : ◌≡◌ {A = ℕ} 0 1 = cc in omega arith)
+pub zero-above : (x : ℤ) → lt_z x (pos 0) ≡ false → pos 0 ≡ int_div_euclid x (pos 0)
+zero-above (pos a) h = sym (ap pos (div-zero a))
+zero-above (negsuc a) h = absurd (let z : ◌≡◌ {A = ℕ} 0 1 = cc in omega arith)
 
 -- ---- bounds
 -- Form 8: the library's laws of neg_abs, mag_abs and times_abs are private.
@@ -173,18 +111,34 @@ add-mag (negsuc a) (negsuc b) m n h k = omega arith
 pub wide : {z a : ℤ} → SFits w32 z → a ≡ to_z w32 (of_z w32 z) → to_z w64 (of_z w64 a) ≡ z
 wide f e = rw (e ∙ to_z-of_z f) (to_z-of_z {w = w64} (record { sfits = lt_of_lt_of_le f.sfits (lit≤ tt) }))
 
--- Form 8: lexical has this law as `beq-true`, and sets stands on no crate.
-pub beq_same : (p q : Bool) → beq p q ≡ true → p ≡ q
-beq_same true true e = refl
-beq_same true false e = sym e
-beq_same false true e = e
-beq_same false false e = refl
+-- ---- the machine's answer
 
-pub beq_other : (p q : Bool) → beq p q ≡ false → p ≡ q → ⊥
-beq_other true true e h = let z : ◌≡◌ {A = ℕ} 0 1 = cc in omega arith
-beq_other true false e h = let z : ◌≡◌ {A = ℕ} 0 1 = cc in omega arith
-beq_other false true e h = let z : ◌≡◌ {A = ℕ} 0 1 = cc in omega arith
-beq_other false false e h = let z : ◌≡◌ {A = ℕ} 0 1 = cc in omega arith
+some : {y : ℤ} → SFits w64 y → (y ≡ pos 0 → ⊥) → 0 < of_z w64 y
+some f d = pos_of_ne-zero (λ h. d (sym (to_z-of_z f) ∙ ap (to_z w64) h))
+
+fits-ratio : (x y : ℤ) → nat_abs x ≤ 2 ^ 31 → SFits w64 (quot_z x y)
+fits-ratio x y h = record { sfits = lt_of_le_of_lt (mag_abs (quot_z x y)) (lt_of_le_of_lt (omega (arith, quot_abs x y)) (lit< {m = 2 ^ 31} tt)) }
+
+-- where a quotient is none, the divisor is 0
+divided : (x y d : ℤ) (r : Option ℤ) → nat_abs x ≤ 2 ^ 31 → SFits w64 y → SomeIff r (CanDivide w64 x y) (int_div_euclid x y) → d ≡ int_div_euclid x (pos 0)
+    → unwrap_or r d ≡ int_div_euclid x y
+divided x y d (Some v) h f s e = s.1
+divided x (pos zero) d None h f s e = e
+divided x (pos (suc b)) d None h f s e = absurd (s (some f (λ (q : pos (suc b) ≡ pos 0). let z : ◌≡◌ {A = ℕ} 0 1 = cc in omega arith), fits-ratio x (pos (suc b)) h))
+divided x (negsuc b) d None h f s e = absurd (s (some f (λ (q : negsuc b ≡ pos 0). let z : ◌≡◌ {A = ℕ} 0 1 = cc in omega arith), fits-ratio x (negsuc b) h))
+
+again : {z a : ℤ} → SFits w32 z → a ≡ to_z w32 (of_z w32 z) → to_z w64 (of_z w64 (to_z w64 (of_z w64 a))) ≡ z
+again {z} f e = rw (wide f e) (to_z-of_z {w = w64} (record { sfits = lt_of_lt_of_le f.sfits (lit≤ tt) }))
+
+neg-abs : (z : ℤ) → nat_abs (neg_ℤ z) ≡ nat_abs z
+neg-abs (pos n) = neg_abs n
+neg-abs (negsuc n) = refl
+
+neg-fits : {z : ℤ} → SFits w32 z → SFits w64 (neg_ℤ z)
+neg-fits {z} f = record { sfits = lt_of_le_of_lt (mag_neg_abs z) (lt_of_le_of_lt (nat_abs-le z f.sfits) (lit< {m = 2 ^ 31} tt)) }
+
+negated : {z a : ℤ} → SFits w32 z → a ≡ to_z w32 (of_z w32 z) → to_z w64 (of_z w64 (to_z w64 (of_z w64 (pos 0 -ℤ to_z w64 (of_z w64 a))))) ≡ neg_ℤ z
+negated {z} f e = rw (wide f e, +ℤ_idl (neg_ℤ z), to_z-of_z (neg-fits f)) (to_z-of_z (neg-fits f))
 
 module _ {x y a b : ℤ} (fx : SFits w32 x) (fy : SFits w32 y) (ex : a ≡ to_z w32 (of_z w32 x)) (ey : b ≡ to_z w32 (of_z w32 y)) where
   abbrev X : ℤ
@@ -193,55 +147,38 @@ module _ {x y a b : ℤ} (fx : SFits w32 x) (fy : SFits w32 y) (ex : a ≡ to_z 
   abbrev Y : ℤ
   Y = to_z w64 (of_z w64 b)
 
-  pub is_zero : of_z w64 b ≡ 0 → y ≡ pos 0
-  is_zero h = sym (wide fy ey) ∙ ap (to_z w64) h
+  -- the dividend and the divisor, with both signs turned where the divisor is below 0
+  pub record Signed (u v : ℤ) : Type 0 where
+    pub quotient : int_div_euclid (to_z w64 (of_z w64 u)) (to_z w64 (of_z w64 v)) ≡ floor_div x y
+    pub small : nat_abs (to_z w64 (of_z w64 u)) ≤ 2 ^ 31
+    pub fits : SFits w64 (to_z w64 (of_z w64 v))
 
-  not_zero : (of_z w64 b ≡ 0 → ⊥) → y ≡ pos 0 → ⊥
-  not_zero f e = f (ap (of_z w64) (ey ∙ to_z-of_z fy ∙ e))
+  pub kept : {u v : ℤ} → lt_z Y (pos 0) ≡ false → u ≡ X → v ≡ Y → Signed u v
+  kept h p q =
+      let f = ap (λ (z : ℤ). to_z w64 (of_z w64 z)) p ∙ again fx ex in
+      let g = ap (λ (z : ℤ). to_z w64 (of_z w64 z)) q ∙ again fy ey in
+      record {
+        quotient = ap₂ int_div_euclid f g ∙ kept-signs x y (ap (λ (z : ℤ). lt_z z (pos 0)) (sym (wide fy ey)) ∙ h);
+        small = subst (λ (z : ℤ). nat_abs z ≤ 2 ^ 31) (sym f) (nat_abs-le x fx.sfits);
+        fits = rw g (record { sfits = lt_of_lt_of_le fy.sfits (lit≤ tt) });
+      }
 
-  pub sign-of : {t : Bool} → lt_z X (to_z w64 0) ≡ t → lt_z x (pos 0) ≡ t
-  sign-of h = ap (λ (z : ℤ). lt_z z (pos 0)) (sym (wide fx ex)) ∙ h
+  pub turned : {u v : ℤ} → lt_z Y (pos 0) ≡ true → u ≡ to_z w64 (of_z w64 (pos 0 -ℤ X)) → v ≡ to_z w64 (of_z w64 (pos 0 -ℤ Y)) → Signed u v
+  turned h p q =
+      let f = ap (λ (z : ℤ). to_z w64 (of_z w64 z)) p ∙ negated fx ex in
+      let g = ap (λ (z : ℤ). to_z w64 (of_z w64 z)) q ∙ negated fy ey in
+      record {
+        quotient = ap₂ int_div_euclid f g ∙ turned-signs x y (ap (λ (z : ℤ). lt_z z (pos 0)) (sym (wide fy ey)) ∙ h);
+        small = subst (λ (z : ℤ). nat_abs z ≤ 2 ^ 31) (sym f) (omega (arith, neg-abs x, nat_abs-le x fx.sfits));
+        fits = rw g (neg-fits fy);
+      }
 
-  ratio : quot_z X Y ≡ quot_z x y
-  ratio = ap₂ quot_z (wide fx ex) (wide fy ey)
-
-  over : rem_z X Y ≡ rem_z x y
-  over = ap₂ rem_z (wide fx ex) (wide fy ey)
-
-  quot_mag : mag (quot_z x y) < 2 ^ 31 + 1
-  quot_mag = omega (arith, mag_abs (quot_z x y), quot_abs x y, nat_abs-le x fx.sfits)
-
-  pub quot_fits : SFits w64 (quot_z X Y)
-  quot_fits = rw ratio (record { sfits = lt_of_lt_of_le quot_mag (lit≤ tt) })
-
-  rem-fits : SFits w64 (rem_z X Y)
-  rem-fits = rw over (record { sfits = lt_of_le_of_lt (mag_rem x y) (lt_of_lt_of_le fx.sfits (lit≤ tt)) })
-
-  back : to_z w64 (of_z w64 (quot_z X Y)) ≡ quot_z x y
-  back = to_z-of_z quot_fits ∙ ratio
-
-  rem-back : to_z w64 (of_z w64 (rem_z X Y)) ≡ rem_z x y
-  rem-back = to_z-of_z rem-fits ∙ over
-
-  pub less-fits : SFits w64 (to_z w64 (of_z w64 (quot_z X Y)) -ℤ pos 1)
-  less-fits = rw back (record { sfits = lt_of_lt_of_le (add-mag (quot_z x y) (negsuc 0) (2 ^ 31 + 1) 1 quot_mag (lit< tt)) (lit≤ tt) })
-
-  signs : {a b : ℤ} → a ≡ rem_z x y → b ≡ y → (lt_z a (pos 0) ≡ lt_z b (pos 0)) → lt_z (rem_z x y) (pos 0) ≡ lt_z y (pos 0)
-  signs p q e = ap (λ (z : ℤ). lt_z z (pos 0)) (sym p) ∙ e ∙ ap (λ (z : ℤ). lt_z z (pos 0)) q
-
-  module _ (d : of_z w64 b ≡ 0 → ⊥) where
-    pub case-exact : of_z w64 (rem_z X Y) ≡ 0 → to_z w64 (of_z w64 (quot_z X Y)) ≡ floor_div x y
-    case-exact h = back ∙ exact x y (not_zero d) (sym rem-back ∙ ap (to_z w64) h)
-
-    pub case_same : beq (lt_z (to_z w64 (of_z w64 (rem_z X Y))) (to_z w64 0)) (lt_z Y (to_z w64 0)) ≡ true → to_z w64 (of_z w64 (quot_z X Y)) ≡ floor_div x y
-    case_same h = back ∙ same_sign x y (not_zero d) (signs rem-back (wide fy ey) (beq_same _ _ h))
-
-    pub case_other : (of_z w64 (rem_z X Y) ≡ 0 → ⊥) → beq (lt_z (to_z w64 (of_z w64 (rem_z X Y))) (to_z w64 0)) (lt_z Y (to_z w64 0)) ≡ false
-        → to_z w64 (of_z w64 (to_z w64 (of_z w64 (quot_z X Y)) -ℤ pos 1)) ≡ floor_div x y
-    case_other f h =
-        to_z-of_z less-fits ∙ ap (λ (z : ℤ). z -ℤ pos 1) back
-        ∙ other_sign x y (not_zero d) (λ e. f (ap (of_z w64) (over ∙ e)))
-        (λ e. beq_other _ _ h (ap (λ (z : ℤ). lt_z z (pos 0)) rem-back ∙ e ∙ ap (λ (z : ℤ). lt_z z (pos 0)) (sym (wide fy ey))))
+  pub answered : {u v d w : ℤ} (r : Option ℤ) → Signed u v
+      → SomeIff r (CanDivide w64 (to_z w64 (of_z w64 u)) (to_z w64 (of_z w64 v))) (int_div_euclid (to_z w64 (of_z w64 u)) (to_z w64 (of_z w64 v)))
+      → d ≡ int_div_euclid (to_z w64 (of_z w64 u)) (pos 0) → w ≡ unwrap_or r d → to_z w64 (of_z w64 w) ≡ floor_div x y
+  answered {w = w} r s q z e =
+      let i : w ≡ floor_div x y = e ∙ divided _ _ _ r s.small s.fits q z ∙ s.quotient in
+      rw i (to_z-of_z {w = w64} (record { sfits = lt_of_le_of_lt (mag_abs (floor_div x y)) (lt_of_le_of_lt (omega (arith, floor_abs x y, nat_abs-le x fx.sfits)) (lit< {m = 2 ^ 31} tt)) }))
 
   -- what is left, for a q that is the quotient
   module _ (q : ℤ) (e : q ≡ floor_div x y) where

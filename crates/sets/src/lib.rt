@@ -88,6 +88,7 @@ pub fn dom(n: u32, m: u32, s: u16) -> u16
 }
 
 // The second sides.
+// Form 3: by `(0..top).fold(0, |r: u16, i: u32| r | row(s, pair(m, i, 0), m))` the answer stays open (`returns`): `fold` promises it over the list of all i.
 pub fn ran(n: u32, m: u32, s: u16) -> u16
     ensures { result ≡ ran n m s }
 {
@@ -99,27 +100,15 @@ pub fn ran(n: u32, m: u32, s: u16) -> u16
     r
 }
 
-// x div y, rounded toward minus infinity.
+// x div y, rounded toward minus infinity: the library's `div_euclid` rounds so where the divisor is above 0, and both signs are turned where it is below.
 // Form 1: it is total, as the definition is, which by 0 makes -1 of an x below 0 and 0 of any other; no dossier divides by 0 (document 01, number 14).
-// Form 4: the library's `div_euclid` rounds so where the divisor is above 0 alone; with it both signs are turned first, and there is no line of which the must-fail edit `div_toward_zero`
-// makes one that rounds every quotient toward zero.
 pub fn floor_div(x: i32, y: i32) -> i64
     ensures { result ≡ floor_div x y }
 {
-    let a = i64::from(x);
-    let b = i64::from(y);
-    if b == 0 {
-        return if a < 0 { -1 } else { 0 };
-    }
-    let q = a / b;
-    let r = a % b;
-    if r == 0 {
-        return q;
-    }
-    if (r < 0) == (b < 0) {
-        return q;
-    }
-    q - 1
+    let (a, b) = (i64::from(x), i64::from(y));
+    let (a, b) = if b < 0 { (-a, -b) } else { (a, b) };
+    a.checked_div_euclid(b)
+        .unwrap_or(if a < 0 { -1 } else { 0 })
 }
 
 // x mod y: what x div y leaves. By 0 it leaves x.

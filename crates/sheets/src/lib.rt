@@ -15,7 +15,6 @@ pub const SHEET: usize = 65536;
 // The widest line.
 pub const COLUMNS: usize = 100;
 
-// Form 6: as `bounded_texts::BoundedText`, which it is made of.
 #[derive(Drop)]
 pub struct Sheet {
     text: BoundedText<SHEET>,

@@ -5,13 +5,16 @@ use mathlib.Core.List.{List}
 use Prim.Native.Nat.{ℕ, ◌+◌, ◌*◌, ◌^◌, ◌<◌, ◌≤◌}
 use native.Mathlib.Nat.{mul-le-mul}
 use native.Mathlib.Omega.{arith}
-use lib.ListN.{get_or, length, set, length-set}
+use lib.ListN.{get_or, length, set}
 use lib.Seq.{get_or-set_same, get_or-set_other}
 use Rattle.form.specs.Tree.{partial}
 use Rattle.carriers.specs.StaticRulesCarriers.{arrow_count}
 use Rattle.slot_carriers.specs.CellGroups.{Others}
 use Rattle.slot_carriers.specs.TypeNodes.{CountIs, FunctionIs, Functions}
+use Rattle.std.specs.Simd.Lanes.{put_chunk}
 use Rattle.std.proofs.lemmas.Bool.{cases_lt}
+use Rattle.std.proofs.lemmas.Simd.{put_chunk_is, length-put_chunk, get_or-put_chunk_below, get_or-put_chunk_above, get_or-put_chunk_at}
+use borrow.Rule.Slice.PartMut.{put_mid}
 
 pub product-low : (a b : ℕ) → a < 65536 → b < 65536 → a * b ≤ 65535 * 65535
 product-low a b h k = mul-le-mul (at_most a h) (at_most b k)
@@ -50,26 +53,6 @@ module _ (s a b r : ℕ) where
 
 -- ---- the list
 
-pub others-next : (l m r : List ℕ) (s n x : ℕ) → Others 0 l s n m → r ≡ set m (s + n) x → Others 0 l s (n + 1) r
-others-next l m r s n x o e =
-    record {
-      below = λ i h. other i (under i h) ∙ o.below i h;
-      above = λ i h. other i (over i h) ∙ o.above i (within i h);
-      same_length = ap length e ∙ length-set m (s + n) x ∙ o.same_length;
-    }
-  where
-    other : (i : ℕ) → (i ≡ s + n → ⊥) → get_or r i 0 ≡ get_or m i 0
-    other i h = ap (λ (z : List ℕ). get_or z i 0) e ∙ get_or-set_other m (s + n) i x 0 h
-
-    under : (i : ℕ) → i < s → i ≡ s + n → ⊥
-    under i h q = omega arith
-
-    over : (i : ℕ) → s + (n + 1) ≤ i → i ≡ s + n → ⊥
-    over i h q = omega arith
-
-    within : (i : ℕ) → s + (n + 1) ≤ i → s + n ≤ i
-    within i h = omega arith
-
 split : (d n : ℕ) → d < n + 1 → (d < n) ⊎ (d ≡ n)
 split d n h = go (cases_lt d n)
   where
@@ -93,3 +76,25 @@ functions-next s a b at n m r x low f e v d h = go (split d n h)
 
 pub functions-none : (s a b at : ℕ) (m : List ℕ) → Functions s a b at 0 m
 functions-none s a b at m d h = absurd (omega arith)
+
+-- a list is written in the part of the cells from `at` on
+module _ (at n : ℕ) (m p : List ℕ) (long : length p ≡ n) (room : at + n ≤ length m) where
+  chunk : put_mid at n m p ≡ put_chunk at m p
+  chunk = ap (λ (k : ℕ). put_mid at k m p) (sym long) ∙ sym (put_chunk_is at m p (omega arith))
+
+  at_place : (i : ℕ) → get_or (put_mid at n m p) i 0 ≡ get_or (put_chunk at m p) i 0
+  at_place i = ap (λ (z : List ℕ). get_or z i 0) chunk
+
+  pub others-part : Others 0 m at n (put_mid at n m p)
+  others-part =
+      record {
+        below = λ i h. at_place i ∙ get_or-put_chunk_below at m p i 0 h;
+        above = λ i h. at_place i ∙ get_or-put_chunk_above at m p i 0 (omega arith);
+        same_length = ap length chunk ∙ length-put_chunk at m p;
+      }
+
+  zero_behind : (d : ℕ) → d ≡ 0 + d
+  zero_behind d = omega arith
+
+  pub functions-part : (s a b : ℕ) → Functions s a b 0 n p → Functions s a b at n (put_mid at n m p)
+  functions-part s a b f d h = subst (FunctionIs s a b d) (sym (at_place (at + d) ∙ get_or-put_chunk_at at m p d 0 (omega arith) (omega arith) ∙ ap (λ (k : ℕ). get_or p k 0) (zero_behind d))) (f d h)

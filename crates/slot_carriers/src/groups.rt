@@ -26,6 +26,8 @@ impl GroupSize {
 }
 
 // How many bindings the n variables from a slot on have.
+// Form 3: by `(base..base + n).map(|slot| count_of(cells, slot)).product()` what `count_of` asks of each slot, that the product of what comes fits, and the answer stay open: `product`
+// multiplies a list from its first number on, and the count is defined from the last variable on.
 pub fn binding_count(cells: &[u32; CELLS], base: usize, n: usize) -> usize
     requires { Grouped cells.now base n }
     ensures { Counts cells.now base n result }

@@ -1,6 +1,5 @@
 // The cells are made of the nodes of declared types in the reader's table.
-ghost use Rattle.std.specs.Prelude.{◌≡◌, ◌+◌, ◌<◌, ◌≤◌, get_or};
-ghost use Rattle.slot_carriers.specs.CellGroups.{Others};
+ghost use Rattle.std.specs.Prelude.{◌≡◌, ◌+◌, ◌<◌, ◌≤◌, get_or, length};
 ghost use Rattle.slot_carriers.specs.TypeNodes.{CountIs, FunctionIs, Functions, CellWritten, Placed, CellMade};
 ghost use Rattle.slot_carriers.specs.DeclaredGroups.{Declared, CellsMade, Copied};
 
@@ -8,39 +7,48 @@ use crate::{CELL, CELLS, FIRST, SHAPE, type_shapes};
 use form::node;
 use form::node::GROUPS;
 
+// A declared type by the numbers of its node: its shape, and two numbers that the shape gives a meaning.
+#[derive(Clone, Copy)]
+pub struct DeclaredType {
+    pub shape: u32,
+    pub a: u32,
+    pub b: u32,
+}
+
 // How many values a type has. The sets of n bits are as many as the partial functions from n elements to one.
-pub fn type_count(shape: u32, a: u32, b: u32) -> u32
-    requires { (a < 65536) × (b < 65536) }
-    ensures { CountIs shape a b result }
+pub fn type_count(t: DeclaredType) -> u32
+    requires { (t.a < 65536) × (t.b < 65536) }
+    ensures { CountIs t.shape t.a t.b result }
 {
-    match shape {
-        type_shapes::SET => a,
-        type_shapes::RANGE => b,
-        type_shapes::POWER => carriers::partial_count(a, 1),
-        type_shapes::RELATION => carriers::partial_count(a * b, 1),
-        type_shapes::PARTIAL => carriers::partial_count(a, b),
-        _ => carriers::total_count(a, b),
+    match t.shape {
+        type_shapes::SET => t.a,
+        type_shapes::RANGE => t.b,
+        type_shapes::POWER => carriers::partial_count(t.a, 1),
+        type_shapes::RELATION => carriers::partial_count(t.a * t.b, 1),
+        type_shapes::PARTIAL => carriers::partial_count(t.a, t.b),
+        _ => carriers::total_count(t.a, t.b),
     }
 }
 
 // The d-th of the partial or total functions.
-fn function_at(shape: u32, a: u32, b: u32, d: u32) -> u32
-    ensures { FunctionIs shape a b d result }
+fn function_at(t: DeclaredType, d: u32) -> u32
+    ensures { FunctionIs t.shape t.a t.b d result }
 {
-    if shape == type_shapes::PARTIAL {
-        return u32::from(carriers::partial_mask(a, b, d));
+    if t.shape == type_shapes::PARTIAL {
+        return u32::from(carriers::partial_mask(t.a, t.b, d));
     }
-    u32::from(carriers::total_mask(a, b, d))
+    u32::from(carriers::total_mask(t.a, t.b, d))
 }
 
-// Writes the n functions of a type from `at` on: they are asked for often, and each takes a loop.
-fn set_list(shape: u32, a: u32, b: u32, n: u32, at: usize, cells: &mut [u32; CELLS])
-    requires { at + n ≤ 9216 }
-    ensures list { Functions shape a b at n cells.new }
-    ensures others { Others 0 cells.old at n cells.new }
+// Writes the first functions of a type, as many as the list is long: they are asked for often, and each takes a loop.
+fn set_list(t: DeclaredType, list: &mut [u32])
+    requires { length list.old ≤ 9216 }
+    ensures long { length list.new ≡ length list.old }
+    ensures list { Functions t.shape t.a t.b 0 (length list.old) list.new }
 {
-    for d in 0..n {
-        cells[at + d as usize] = function_at(shape, a, b, d);
+    // Form 3: after an adapter of `iter_mut` (`enumerate`, `zip`) nothing is known of what was written.
+    for d in 0..list.len() {
+        list[d] = function_at(t, d as u32);
     }
 }
 
@@ -67,17 +75,20 @@ fn set_cell(
     requires placed { Placed table.now q at }
     ensures { CellMade table.now q slot at cells.old cells.new result }
 {
-    let shape = u32::from(table[q + node::SHAPE]);
-    let a = u32::from(table[q + node::A]);
-    let b = u32::from(table[q]);
-    let n = type_count(shape, a, b);
-    if shape < type_shapes::PARTIAL {
-        write_cell(cells, slot, n, shape, a);
+    let t = DeclaredType {
+        shape: u32::from(table[q + node::SHAPE]),
+        a: u32::from(table[q + node::A]),
+        b: u32::from(table[q]),
+    };
+    let n = type_count(t);
+    if t.shape < type_shapes::PARTIAL {
+        write_cell(cells, slot, n, t.shape, t.a);
         return at;
     }
-    write_cell(cells, slot, n, shape, at as u32);
-    set_list(shape, a, b, n, at, cells);
-    at + n as usize
+    write_cell(cells, slot, n, t.shape, at as u32);
+    let end = at + n as usize;
+    set_list(t, &mut cells[at..end]);
+    end
 }
 
 // The cells of one group: `row` is where it stands in `groups`, its number of variables and the places of their nodes; `base` its first slot; lists from `from`

@@ -1,6 +1,6 @@
 -- Slots that a predicate leaves out, row by row, and by bits. Assumes nothing.
 use mathlib.Core.Path.{◌≡◌, refl, sym, subst, ◌∙◌}
-use mathlib.Core.Bool.{Bool, true, false}
+use mathlib.Core.Bool.{Bool, true, false, false≢true}
 use mathlib.Core.List.{List}
 use Prim.Native.Nat.{ℕ, zero, suc, ◌+◌, ◌*◌, ◌/◌, ◌%◌, ◌<◌, ◌≤◌}
 use native.Mathlib.Nat.{mod-lt, zero-lt-suc}
@@ -15,7 +15,6 @@ use Rattle.static_rules.specs.Scope.{Scope}
 use Rattle.meaning.proofs.Places.{below-entry}
 use Rattle.table_places.specs.ResolvedTable.{Slots}
 use Rattle.mentions.specs.MentionPromises.{TruthFree, TruthSays}
-use Rattle.mentions.proofs.FreeNodes.{refused}
 use Rattle.points.specs.Masks.{MaskOf}
 use Rattle.states.specs.ReadPredicatesPredicateRows.{RowsAt, no_rows, more_rows, TestsOf}
 use Rattle.states.proofs.StateLaws.{ContextOf, abstract-context, concrete-context, ainit-context, cinit-context, retrieve-context}
@@ -52,7 +51,7 @@ row-free s = s.means refl
 -- ---- the predicate of a context, as bits
 
 no_bits : (j : ℕ) → has 0 j ≡ true → ⊥
-no_bits j e = let z : false ≡ true = sym (has-past 0 0 j (omega arith) (omega arith)) ∙ e in refused z
+no_bits j e = let z : false ≡ true = sym (has-past 0 0 j (omega arith) (omega arith)) ∙ e in absurd (false≢true z)
 
 pub left_out : {table rows firsts : List ℕ} {context slot count r : ℕ} {R : ℕ → Bool → Type 0} → MaskOf R count r
     → ((k : ℕ) (b : Bool) → R k b → RowsSay table rows (get_or firsts context 0) (get_or firsts (context + 1) 0) (slot + k) b) → LeftOut table rows firsts context slot count r

@@ -79,12 +79,10 @@ fn step_false(s: &StateSearch<'_>, j: usize, c: usize, i: usize) -> Option<usize
     }
     let mut slots = [0i64; SLOTS];
     let x = Bindings {
-        a: 0,
         c,
         i,
-        o: 0,
         k: c,
-        b: 0,
+        ..Bindings::default()
     };
     put_states(s, x, &mut slots);
     put_parameters(s, x, &mut slots);

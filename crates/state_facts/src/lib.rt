@@ -1,7 +1,9 @@
 // Facts about a dossier by numbers of bindings, for a program that explains counterexamples: the values of the bindings that are shown. Numbers are those of the fixed order;
 // one that is out of range is answered, never refused.
-// Form 5: that a number is one of the abstract bindings is asked of four functions, by one short clause each: as a type it is a struct with the search as a ghost field, made by a literal
-// in two closures and opened in each of the four. `PartAsked`, of one function, as in `part_places`.
+// Form 5: that a number is one of the abstract bindings is asked of five functions of `searches`, that it is one of the concrete bindings of three, by one short clause each: as a type it is
+// a struct of the number and the search, made by a literal in three closures for the abstract ones and in two for the concrete ones, and `related_at`, which takes one of each, would
+// ask that both are of the same search.
+// `PartAsked`, of one function, as in `part_places`.
 #![tactic(auto)]
 
 pub mod conjuncts;

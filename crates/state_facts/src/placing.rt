@@ -30,6 +30,7 @@ fn bind_below(
 }
 
 // An abstract and a concrete state.
+// Form 2: `put_parameters` is two such calls over other slots, sizes and numbers: one function for both would be handed all six of these.
 pub fn bind_pair(s: &StateSearch<'_>, x: Pair, slots: &mut [i64; SLOTS])
     requires { StatesSized s.now.cells s.now.part }
     ensures values { PairBound s.now.cells s.now.part x.a x.c slots.new }

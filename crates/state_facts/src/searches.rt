@@ -11,6 +11,9 @@ use slot_carriers::SLOTS;
 use states::{abstract_initial, context_holds, related};
 use step_searches::{ReadDossier, concrete_state_at};
 
+// Form 2: three functions here and `retrieve_false` of `conjuncts` make slots and bind a pair in two lines. As a function that gives the slots these are one line each, and what
+// `bind_pair`, which `put_states` needs beside it, promises of the slots stands a second time.
+
 // Is the a-th abstract binding an initial state?
 fn initial_at(s: &PairSearch<'_>, a: usize) -> bool
     requires a_lt_nm { a < s.now.part.meeting.bindings }

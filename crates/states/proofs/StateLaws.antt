@@ -22,14 +22,18 @@ use Rattle.states.specs.StateTests.{Placed}
 use Rattle.states.specs.Promises.{ContextAsked, ContextAnswers, AbstractIn, ConcreteIn}
 use Rattle.states.specs.Promises.{AbstractInitialAsked, AbstractInitialAnswers, ConcreteInitialAsked, ConcreteInitialAnswers, RelatedAsked, RelatedAnswers}
 
--- the n-th context has this predicate, these variables in reach, these slots
-pub record ContextOf (d : Dossier) (n : ℕ) (p : Pred) (vs : List Variable) (W : Slots) : Type 0 where
+-- the n-th of these contexts has this predicate, these variables in reach, these slots
+pub record Entry (d : Dossier) (cs : List Context) (Ws : List Slots) (n : ℕ) (p : Pred) (vs : List Variable) (W : Slots) : Type 0 where
   pub context : Context
-  pub is : get_elem? (contexts d) n ≡ some context
-  pub slots_are : get_elem? (slots_of d) n ≡ some W
+  pub is : get_elem? cs n ≡ some context
+  pub slots_are : get_elem? Ws n ≡ some W
   pub predicate_is : context.predicate ≡ p
   pub givens_are : context.scope.givens ≡ d.givens
   pub reach_is : context.scope.reach ≡ vs
+
+-- the same of a dossier's contexts
+abbrev pub ContextOf : Dossier → ℕ → Pred → List Variable → Slots → Type 0
+ContextOf d n p vs W = Entry d (contexts d) (slots_of d) n p vs W
 
 -- slots that are as they were
 pub asked-as : {table rows firsts : List ℕ} {n : ℕ} {τ σ : Values} → τ ≡ σ → ContextAsked table rows firsts n σ → ContextAsked table rows firsts n τ

@@ -23,7 +23,7 @@ use Rattle.read_predicates.specs.PredicateRows.{TestsOf}
 use Rattle.states.specs.StateTests.{Placed, StepAt}
 use Rattle.states.specs.Promises.{ContextAsked, ContextAnswers}
 use Rattle.states.specs.Promises.{AbstractStepAsked, AbstractStepAnswers, ConcreteStepAsked, ConcreteStepAnswers}
-use Rattle.states.proofs.StateLaws.{ContextOf, abstract-context, concrete-context, asked-at, answer_at, over-append, slotted-append, Both, both-left, both-is}
+use Rattle.states.proofs.StateLaws.{Entry, ContextOf, abstract-context, concrete-context, asked-at, answer_at, over-append, slotted-append, Both, both-left, both-is}
 use Rattle.static_rules.proofs.FoundCarriers.{variables-one, variables-skip}
 
 -- ---- the contexts of the k-th operation
@@ -36,14 +36,6 @@ double-is : (k : ℕ) → double k ≡ 2 * k
 unfolding double
 double-is zero = refl
 double-is (suc k) = let e = double-is k in omega arith
-
-record Entry (d : Dossier) (cs : List Context) (Ws : List Slots) (n : ℕ) (p : Pred) (vs : List Variable) (W : Slots) : Type 0 where
-  context : Context
-  is : get_elem? cs n ≡ some context
-  slots_are : get_elem? Ws n ≡ some W
-  predicate_is : context.predicate ≡ p
-  givens_are : context.scope.givens ≡ d.givens
-  reach_is : context.scope.reach ≡ vs
 
 -- one context further on
 further : {d : Dossier} {cs : List Context} {Ws : List Slots} {n : ℕ} {p : Pred} {vs : List Variable} {W : Slots} (c : Context) (Y : Slots) → Entry d cs Ws n p vs W
@@ -85,14 +77,7 @@ module _ (d : Dossier) where
   behind-five : (n m : ℕ) (p : Pred) (vs : List Variable) (W : Slots)
       → Entry d (operation_contexts d (operations_at d) (concrete_taken d) d.operations) (operation_slots d d.operations) n p vs W → 5 + n ≡ m → ContextOf d m p vs W
   unfolding contexts slots_of
-  behind-five n m p vs W h e = subst (λ (x : ℕ). ContextOf d x p vs W) (l ∙ e) (record {
-    context = h.context;
-    is = h.is;
-    slots_are = h.slots_are;
-    predicate_is = h.predicate_is;
-    givens_are = h.givens_are;
-    reach_is = h.reach_is;
-  })
+  behind-five n m p vs W h e = subst (λ (x : ℕ). ContextOf d x p vs W) (l ∙ e) (further _ _ (further _ _ (further _ _ (further _ _ (further _ _ h)))))
     where
       l : suc (suc (suc (suc (suc n)))) ≡ 5 + n
       l = omega arith

@@ -1,9 +1,9 @@
--- The carrier of each type whose given sets are found; the variables of declarations one by one.
+-- The carrier of each type whose given sets are found; the variables of declarations one by one; the declarations of parameters.
 use mathlib.Core.Path.{◌≡◌}
-use mathlib.Core.List.{List, ◌∷◌}
+use mathlib.Core.List.{List, ◌∷◌, map}
 use mathlib.Core.Option.{none, some}
 use Rattle.form.specs.LexicalSymbols.{Ending, Name}
-use Rattle.form.specs.Tree.{Given, Arrow, given_type, power_type, arrow_type, Declaration}
+use Rattle.form.specs.Tree.{Given, Arrow, given_type, power_type, arrow_type, Declaration, Parameter}
 use Rattle.static_rules.specs.Carriers.{Carrier, elements_of, subsets_of, pairs_in, given_of, carrier_of}
 use Rattle.static_rules.specs.Scope.{variables}
 
@@ -28,3 +28,6 @@ variables-one gs e d ds c h = rw (variables, h)
 pub variables-skip : (gs : List Given) (e : Ending) (d : Declaration) (ds : List Declaration) → carrier_of gs d.type ≡ none → variables gs e (d ∷ ds) ≡ variables gs e ds
 unfolding variables
 variables-skip gs e d ds h = rw (variables, h)
+
+abbrev pub declarations_of : List Parameter → List Declaration
+declarations_of xs = map (λ (x : Parameter). x.declaration) xs

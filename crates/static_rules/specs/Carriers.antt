@@ -66,11 +66,11 @@ plain x = record { letters = x; ending = no_ending }
 unfoldable pub given_of : List Given → Name → Option Given
 given_of gs x = find (λ (g : Given). same_name (plain g.title) x) gs
 
-abbrev for_given : (Given → Carrier) → Option Given → Option Carrier
+abbrev pub for_given : (Given → Carrier) → Option Given → Option Carrier
 for_given f none = none
 for_given f (some g) = some (f g)
 
-abbrev for_givens : (Given → Given → Carrier) → Option Given → Option Given → Option Carrier
+abbrev pub for_givens : (Given → Given → Carrier) → Option Given → Option Given → Option Carrier
 for_givens f none h = none
 for_givens f (some g) none = none
 for_givens f (some g) (some h) = some (f g h)

@@ -32,7 +32,7 @@ unfoldable pub place_in : List Letters → Name → ℕ
 place_in [] x = 0
 place_in (e ∷ es) x = elim (same_name (plain e) x) [ true ↦ 0 | false ↦ suc (place_in es x) ]
 
-abbrev or_element : Option Variable → Option Given → Option Ty
+abbrev pub or_element : Option Variable → Option Given → Option Ty
 or_element (some v) g = some (type_of v.carrier)
 or_element none none = none
 or_element none (some g) = some (type_of (elements_of g))
@@ -50,7 +50,7 @@ abbrev pub binding : Scope → Letters → Carrier → Scope
 binding Γ x c = record { givens = Γ.givens; taken = x ∷ Γ.taken; reach = record { called = plain x; carrier = c } ∷ Γ.reach }
 
 -- declared variables, with an ending. A type at fault has no carrier: its fault stands before every use of the variable
-abbrev with_carrier : Name → Option Carrier → List Variable → List Variable
+abbrev pub with_carrier : Name → Option Carrier → List Variable → List Variable
 with_carrier x none vs = vs
 with_carrier x (some c) vs = record { called = x; carrier = c } ∷ vs
 

@@ -57,6 +57,8 @@ pub fn bits(s: &StepSearch<'_>, machine: Machine, x: usize, memo: &mut [u64; mem
 }
 
 // Those of all concrete states.
+// Form 3: after an adapter of `iter_mut` (`enumerate`, `zip`) nothing is known of what was written. Masks that are returned in place of those that are lent would be filled by the same loop, in an
+// array of the function's own.
 pub fn fill_masks(
     s: &StepSearch<'_>,
     masks: &mut [u64; MOST_STATES],

@@ -5,11 +5,13 @@
 // and a function that is handed a closure over the search would ask that it can be called with every search of the operation, in place of three statements.
 // Form 3: in the loops by `while` the next place is what a search answers that writes the memory: in the closure of an iterator nothing is told of what it changes, as seen at
 // `runs::step_from`, and `remembers` says what the memory is behind the loop.
-// Form 5: the memory goes with the search through each function: in one struct, lent to be written, each would have to promise that the search is the same
+// Form 5: the memory goes with the search through eleven functions: in one struct, lent to be written, each would have to promise that the search is the same
 // behind it, and would hand the two on one by one, since the functions of `step_searches` take them so. That a number is one of the abstract bindings is asked of
-// four functions: as in `step_searches`.
+// four functions, that it is one of the inputs' bindings of two: as in `step_searches`. That a mask has room for n bits (`n ≤ 64`) is asked of two of `differences`: as at
+// `points::masks::mask_of`.
 #![tactic(auto)]
 
+ghost use Rattle.std.specs.Prelude.{ℕ, ◌≤◌};
 ghost use Rattle.step_facts.specs.FactPromises.{SpansAre, AbstractStepIs};
 
 pub use differences::{Place, narrowed, widened};
@@ -32,6 +34,19 @@ pub struct Widths {
     pub nq: usize,
 }
 
+// How many bindings the groups of both states have, and one for inputs and outputs.
+pub fn state_spans(d: &ReadDossier<'_>) -> Widths
+    ensures { (j : ℕ) → d.now.operations ≤ j → SpansAre d.now.table.now d.now.rows.now d.now.firsts.now d.now.groups.now d.now.operations j result }
+{
+    let ready = prepare_opening(&d.arrays);
+    Widths {
+        na: ready.part.meeting.bindings,
+        nc: ready.part.concretes.bindings,
+        ni: 1,
+        nq: 1,
+    }
+}
+
 // How many bindings the groups of operation j have; where it is none of the dossier's, those of both states, and one for inputs and outputs.
 pub fn spans(d: &ReadDossier<'_>, j: usize) -> Widths
     ensures { SpansAre d.now.table.now d.now.rows.now d.now.firsts.now d.now.groups.now d.now.operations j result }
@@ -45,13 +60,7 @@ pub fn spans(d: &ReadDossier<'_>, j: usize) -> Widths
             nq: ready.part.outputs.bindings,
         };
     }
-    let ready = prepare_opening(&d.arrays);
-    Widths {
-        na: ready.part.meeting.bindings,
-        nc: ready.part.concretes.bindings,
-        ni: 1,
-        nq: 1,
-    }
+    state_spans(d)
 }
 
 // Why no step is looked for: the numbers that it is asked for with are none of the operation's.

@@ -40,6 +40,7 @@ fn count_related(s: &StepSearch<'_>, a: usize, memo: &mut [u64; memo::NUMBERS]) 
 }
 
 // With how many inputs the abstract side can step from a.
+// Form 3: `able` writes the memory: in the closure of a `filter` before `count` nothing is told of what it changes, and `remembers` says what the memory is behind the loop.
 fn count_ready(s: &StepSearch<'_>, a: usize, memo: &mut [u64; memo::NUMBERS]) -> usize
     requires a_lt_na { a < s.now.part.abstracts.bindings }
     requires memo { Memo s.now.table.now memo.old }
@@ -91,6 +92,7 @@ fn count_all(s: &StepSearch<'_>, counted: Counted, memo: &mut [u64; memo::NUMBER
 }
 
 // What they come to for operation j of the arrays; nothing is counted where the dossier has no such operation.
+// Form 1: so many there are then: 0 is a count.
 fn total(d: &ReadDossier<'_>, j: usize, counted: Counted) -> usize
     ensures { TotalIs d.now.table.now d.now.rows.now d.now.firsts.now d.now.groups.now d.now.operations j counted result }
 {

@@ -2,8 +2,10 @@
 // with the variables that are given at one of their bindings and all others at their first values.
 // Form 5: the memory goes with the search through eight functions: it is written where the search is read, and in one struct, lent to be written, each of the eight
 // would promise that the search is the same behind it. What is asked of an initialisation part is asked of two functions: a struct around `PartSearch` with its
-// `Model` is twelve lines for two clauses. That a number is one of the abstract bindings is asked of two functions here and of four in `step_facts`: a type of such numbers would have the
-// search as a ghost field, and each of the six would ask instead that it is the search that is lent beside it.
+// `Model` is twelve lines for two clauses. That a number is one of the abstract bindings is asked of two functions here and of four in `step_facts`; that it is one of the concrete bindings,
+// of three here, of three in `state_facts` and of one in `reached_pairs`; that it is one of the inputs' bindings, of two here, of two in `step_facts` and of one in `reached_pairs`. Each bound is
+// a size of the search's part: a type of such numbers would hold the size, or the search, beside the number, and each of these functions would ask instead that it is that of the
+// search that is lent beside it.
 #![tactic(auto)]
 
 ghost use Rattle.std.specs.Prelude.{◌*◌, ◌<◌, ◌≤◌, IfSome, unwrap_or};
@@ -188,6 +190,8 @@ pub fn next_related_state(
 }
 
 // The next step of the abstract operation from the state a with the inputs i: outputs and after state as one number.
+// Form 2: what this and `next_concrete_step` share is `next_with` and the five lines of the inputs, and a function for both would have the five clauses of `next_with` beside those of
+// the two. Left are the plan, the state's group, the size of outputs and states after (which is `readying` here and made there) and the promise of each.
 pub fn next_abstract_step(
     s: &StepSearch<'_>,
     a: usize,
@@ -222,6 +226,7 @@ pub fn next_abstract_step(
 }
 
 // The next step of the concrete operation from the state c with the inputs i: outputs and after state as one number.
+// Form 2: as `next_abstract_step`.
 pub fn next_concrete_step(
     s: &StepSearch<'_>,
     c: usize,

@@ -114,7 +114,8 @@ fn ends_operand(kind: u8) -> bool {
 }
 
 // A number of each symbol, 0 past the last one.
-// Form 1: who asks for a start or a value has seen by the kinds that the symbol is there, so that with an Option each would unwrap it; 0 is what the definitions' look-up has there.
+// Form 1: some that ask for a start or a value have seen the symbol's kind, others go by places that a node, a walk, the refusal or the count of symbols gives: none of them asks whether the
+// symbol is there, so that with an Option each would unwrap it with 0, which is what the definitions' look-up has there.
 fn number_at(numbers: &[u16], s: usize) -> usize
     ensures value { result ≡ slice_index numbers.now s }
     ensures small { result < 65536 }

@@ -78,6 +78,7 @@ pub fn second_size(sizes: &[u16], k: Kind) -> u16
 }
 
 // How many numbers a range has that is not at fault.
+// Form 1: a node has 0 in the place of such a count, as at `size_of`; with an Option each of the two callers, which write it into a node, would turn `None` back into it.
 pub fn range_count(a: u16, b: u16) -> u16
     ensures { result ≡ range_count a b }
 {

@@ -2,7 +2,7 @@
 use mathlib.Core.Path.{◌≡◌, refl, ap, ap₂, sym, ◌∙◌, subst}
 use mathlib.Core.Bool.{Bool, true, false, cond, ◌||◌}
 use mathlib.Core.Logic.{◌⊎◌, inl, inr, ⊎_elim}
-use mathlib.Core.List.{List, [], ◌∷◌, ◌++◌, map, append-nil, append_assoc}
+use mathlib.Core.List.{List, [], ◌∷◌, ◌++◌, append-nil, append_assoc}
 use Prim.Native.Nat.{ℕ, zero, suc, ◌+◌, ◌-◌, ◌*◌, ◌≤◌, ◌<◌}
 use native.Mathlib.Nat.{add-zero, zero-add}
 use native.Mathlib.Numerals.{add-one}
@@ -11,6 +11,7 @@ use lib.Dec.{eqb}
 use lib.ListN.{length, take, drop, get_or, length-drop, take-append-drop}
 use lib.Seq.{take_at, drop_at, drop-drop, length-take-le}
 use Rattle.names.proofs.DeclaredNamesNodePieces.{Ends, place}
+use Rattle.names.proofs.StaticRulesFoundCarriers.{declarations_of}
 use borrow.Author.Tests.{ne_eqb}
 use Rattle.form.specs.Tree.{TypeForm, given_type, power_type, range_type, arrow_type, relation, partial, total, Declaration, declarations, Parameter, Operation}
 use Rattle.form.specs.Headings.{abstract_at, concrete_at, operations_at, operation_length}
@@ -157,9 +158,6 @@ types-variables : (T : Names) (z : Sizes) (ρ : Numbering) (q : ℕ) (ds : List 
 unfolding with_types with_nodes variables_of
 types-variables T z ρ q [] out = refl
 types-variables T z ρ q (d ∷ ds) out = types-variables T z ρ (q + 8) ds (patch (q + 4) (type_node d.type T z ρ) out)
-
-abbrev declarations_of : List Parameter → List Declaration
-declarations_of xs = map (λ (x : Parameter). x.declaration) xs
 
 types-parameters : (T : Names) (z : Sizes) (ρ : Numbering) (q : ℕ) (xs : List Parameter) (out : List ℕ) → with_types T z ρ q (parameters_of xs) out ≡ with_nodes T z ρ q (declarations_of xs) out
 unfolding with_types with_nodes parameters_of

@@ -1,6 +1,6 @@
 -- In each context of a dossier without faults the table of places shows the names in reach, each at its slot, and the elements.
 use mathlib.Core.Path.{◌≡◌, refl, ap, ap₂, ◌∙◌, sym}
-use mathlib.Core.List.{List, [], ◌∷◌, ◌++◌, map, append_assoc}
+use mathlib.Core.List.{List, [], ◌∷◌, ◌++◌, map, append_assoc, map-append}
 use Prim.Native.Nat.{ℕ, ◌+◌, ◌≤◌}
 use native.Mathlib.Omega.{arith}
 use lib.ListN.{length, replicate, length-replicate}
@@ -23,7 +23,7 @@ use Rattle.table_places.specs.DossierTable.{abstract_slots, concrete_slots, para
 use Rattle.table_places.specs.DossierTableByNumber.{parameters_placed, operation_places, places_of}
 use Rattle.search_groups.specs.GroupPromises.{FewEach, few_none, few_more, Few}
 use Rattle.search_groups.proofs.ScopePlaces.{PlacesShown}
-use Rattle.tables.proofs.SlotPlaces.{into, joined, slotted-names, names-append, shown_by}
+use Rattle.tables.proofs.SlotPlaces.{into, joined, slotted-names, shown_by}
 use Rattle.tables.proofs.DeclaredPlaces.{parameters_few}
 use Rattle.tables.proofs.ParameterPlaces.{numbered, parameters-slotted, parameters-hold}
 use Rattle.tables.proofs.StatePlaces.{Operated, none_operated, one_operated, Separate, no-faults, below}
@@ -42,7 +42,7 @@ Names W vs = map (λ (w : Name × ℕ). w.0) W ≡ map (λ (v : Variable). v.cal
 
 two-names : (W U : Slots) (vs us : List Variable) → Names W vs → Names U us → Names (W ++ U) (vs ++ us)
 two-names W U vs us e f =
-    names-append (λ (w : Name × ℕ). w.0) W U ∙ ap₂ (λ (k l : List Name). k ++ l) e f ∙ sym (names-append (λ (v : Variable). v.called) vs us)
+    map-append (λ (w : Name × ℕ). w.0) W U ∙ ap₂ (λ (k l : List Name). k ++ l) e f ∙ sym (map-append (λ (v : Variable). v.called) vs us)
 
 four-names : (s t i o : ℕ) (vs us is os : List Variable) → Names ((slotted s vs ++ slotted t us) ++ (slotted i is ++ slotted o os)) (vs ++ us ++ is ++ os)
 four-names s t i o vs us is os =

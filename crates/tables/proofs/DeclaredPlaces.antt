@@ -1,6 +1,6 @@
 -- Variables declared without faults: their slots as the table has them, plain and primed.
 use mathlib.Core.Path.{◌≡◌, refl, ap, ◌∙◌, sym, subst}
-use mathlib.Core.Bool.{Bool, true, false}
+use mathlib.Core.Bool.{Bool, true, false, false≢true}
 use mathlib.Core.List.{List, [], ◌∷◌, ◌++◌, map}
 use mathlib.Core.Option.{Option, none, some}
 use Prim.Native.Nat.{ℕ, suc, ◌+◌, ◌≤◌}
@@ -16,7 +16,6 @@ use Rattle.static_rules.specs.Scope.{variables, is_input, is_output, parameters_
 use Rattle.static_rules.specs.Names.{new_name, type_faults, declaration_faults}
 use Rattle.declared_names.specs.NamesByNumber.{variables_of}
 use Rattle.names.proofs.ReachTables.{Numbered}
-use Rattle.names.proofs.TypesAgreeTypes.{no-yes}
 use Rattle.names.proofs.PassAgreesTables.{same-name, name-refl}
 use Rattle.names.proofs.PassAgreesTypes.{type-carries}
 use Rattle.names.proofs.PassAgreesDeclared.{TypedIn, no_typed, one_typed}
@@ -63,7 +62,7 @@ declared-off none_declared e s y u = refl
 declared-off {gs = gs} (one_declared {xs = xs} {d = d} {ds = ds} c f g h) e s y u =
     ap (λ (W : Slots). slot_of W y) (group-one gs e s d ds c g)
     ∙ slot-there (name_of d.declared e, s) (slotted (suc s) (variables gs e ds)) y
-    (false_from_ne_true (same_name (name_of d.declared e) y) (λ k. no-yes (sym f ∙ ap (λ (n : Name). in_use xs (plain n.letters)) (same-name (name_of d.declared e) y k) ∙ u)))
+    (false_from_ne_true (same_name (name_of d.declared e) y) (λ k. absurd (false≢true (sym f ∙ ap (λ (n : Name). in_use xs (plain n.letters)) (same-name (name_of d.declared e) y k) ∙ u))))
     ∙ declared-off h e (suc s) y (use-there d.declared xs (plain y.letters) u)
 
 pub declared-once : {gs : List Given} {xs : List Letters} {ds : List Declaration} → Declared gs xs ds → (e : Ending) (s : ℕ) → Once (slotted s (variables gs e ds))

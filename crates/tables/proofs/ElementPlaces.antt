@@ -1,8 +1,8 @@
 -- Elements of given sets without faults: the table has each one's place in its set, and no variable has the name of an element.
 use mathlib.Core.Path.{◌≡◌, refl, ap, ◌∙◌, sym}
-use mathlib.Core.Bool.{Bool, true, false, cond}
+use mathlib.Core.Bool.{Bool, true, false, cond, false≢true}
 use mathlib.Core.List.{List, [], ◌∷◌, ◌++◌}
-use mathlib.Core.Option.{Option, none, some}
+use mathlib.Core.Option.{Option, none, some, none-ne-some, some-injective}
 use Prim.Native.Nat.{ℕ, suc, ◌+◌}
 use native.Mathlib.Omega.{arith}
 use Rattle.lexical.specs.Lists.{any, find}
@@ -14,7 +14,6 @@ use Rattle.static_rules.specs.Carriers.{ending_code, same_name, plain}
 use Rattle.static_rules.specs.Scope.{element_of, place_in, given_names}
 use Rattle.static_rules.specs.Names.{new_name, element_faults, given_faults}
 use Rattle.names.proofs.ReachTables.{Numbered}
-use Rattle.names.proofs.TypesAgreeTypes.{no-yes}
 use Rattle.names.proofs.PassAgreesUse.{in_use, use-left, use-right, use-here, use-there, elements-new, given-new, givens_new, element-use}
 use Rattle.names.proofs.PassAgreesGivens.{AllIn, none_in, one_in, GivensIn, no_givens, one_given, Holds, entered}
 use Rattle.names.proofs.PassAgreesParameters.{name_of, use-ending}
@@ -22,9 +21,8 @@ use Rattle.table_nodes.specs.TableByNumber.{Places}
 use Rattle.table_places.specs.ResolvedTable.{slot_of, Slots}
 use Rattle.table_places.specs.DossierTableByNumber.{elements_placed, givens_placed}
 use Rattle.search_groups.proofs.ScopePlaces.{slot-there}
-use Rattle.tables.proofs.SlotPlaces.{none-some, into, into-none, Elements, write}
+use Rattle.tables.proofs.SlotPlaces.{into, into-none, Elements, write}
 use Rattle.refusals.proofs.FaultLists.{append_nil-both}
-use Rattle.names.proofs.TypesAgreeScope.{some_one}
 
 -- the places of elements, as slots from 64 on
 unfoldable pub element_slots : (j : ℕ) → List Letters → Slots
@@ -65,13 +63,13 @@ element-none j (x ∷ es) y e = on (same_name (plain x) y) refl e (element-none 
   where
     on : (b : Bool) → same_name (plain x) y ≡ b → ◌≡◌ {A = Bool} (elim b [ true ↦ true | false ↦ in_use es y ]) false
         → (in_use es y ≡ false → slot_of (element_slots (suc j) es) y ≡ none) → slot_of ((plain x, 64 + j) ∷ element_slots (suc j) es) y ≡ none
-    on true k h r = no-yes (sym h)
+    on true k h r = absurd (false≢true (sym h))
     on false k h r = slot-there (plain x, 64 + j) (element_slots (suc j) es) y k ∙ r h
 
 element-at : (xs : List Letters) (i : ℕ) (es : List Letters) → element_faults xs i es ≡ [] → (j : ℕ) (f : Name → ℕ) (y : Name) → in_use es y ≡ true
     → into (element_slots j es) f y ≡ 64 + (j + place_in es y)
 unfolding element_slots element_faults into any
-element-at xs i [] n j f y e = no-yes e
+element-at xs i [] n j f y e = absurd (false≢true e)
 element-at xs i (x ∷ es) n j f y e =
     let a = (append_nil-both (new_name xs x i) (element_faults (x ∷ xs) (suc i) es) n).1 in
     on a (same_name (plain x) y) refl e (element-at (x ∷ xs) (suc i) es a (suc j) (entered (plain x) (64 + j) f) y)
@@ -97,12 +95,12 @@ givens-none (g ∷ gs) f y e = on (in_use (elements g) y) refl e (givens-none gs
     on : (b : Bool) → in_use (elements g) y ≡ b → ◌≡◌ {A = Option Given} (elim b [ true ↦ some g | false ↦ element_of gs y ]) none
         → (element_of gs y ≡ none → into_givens gs (into (element_slots 0 (elements g)) f) y ≡ into (element_slots 0 (elements g)) f y)
         → into_givens gs (into (element_slots 0 (elements g)) f) y ≡ f y
-    on true k h r = none-some (sym h)
+    on true k h r = absurd (none-ne-some _ (sym h))
     on false k h r = r h ∙ into-none (element_slots 0 (elements g)) f y (element-none 0 (elements g) y k)
 
 pub givens-at : (xs : List Letters) (i : ℕ) (gs : List Given) → given_faults xs i gs ≡ [] → (f : Name → ℕ) → Elements gs (into_givens gs f)
 unfolding into_givens element_of find
-givens-at xs i [] n f y h e = none-some e
+givens-at xs i [] n f y h e = absurd (none-ne-some _ e)
 givens-at xs i (g ∷ gs) n f y h e =
     let w = (given-new xs i g gs n).rest in
     on w (in_use (elements g) y) refl e (givens-at (given_names (g ∷ []) ++ xs) (i + given_length g) gs w (into (element_slots 0 (elements g)) f) y h)
@@ -116,14 +114,14 @@ givens-at xs i (g ∷ gs) n f y h e =
         givens-none gs (into (element_slots 0 (elements g)) f) y
         (givens_new (given_names (g ∷ []) ++ xs) (i + given_length g) gs w y (element-use g xs y k)).no_element
         ∙ element-at (g.title ∷ xs) (i + 2) (elements g) (given-new xs i g gs n).elements_are 0 f y k ∙ m
-        ∙ ap (λ (k : Given). 64 + place_in (elements k) y) (some_one g h q)
+        ∙ ap (λ (k : Given). 64 + place_in (elements k) y) (some-injective g h q)
     on w false k q r = r q
 
 -- ---- names of elements are in use ----
 
 element-used : (gs : List Given) (y : Name) (h : Given) → element_of gs y ≡ some h → in_use (given_names gs) y ≡ true
 unfolding element_of find given_names
-element-used [] y h e = none-some e
+element-used [] y h e = absurd (none-ne-some _ e)
 element-used (g ∷ gs) y h e = on (in_use (elements g) y) refl e (element-used gs y h)
   where
     on : (b : Bool) → in_use (elements g) y ≡ b → ◌≡◌ {A = Option Given} (elim b [ true ↦ some g | false ↦ element_of gs y ]) (some h)

@@ -1,8 +1,8 @@
 -- Inputs and outputs declared without faults: the table has them in their declared order, the definitions have the inputs first.
 use mathlib.Core.Path.{◌≡◌, refl, ap, ◌∙◌, sym}
-use mathlib.Core.Bool.{Bool, true, false, not}
+use mathlib.Core.Bool.{Bool, true, false, not, false≢true}
 use mathlib.Core.List.{List, [], ◌∷◌, ◌++◌, map}
-use mathlib.Core.Option.{none, some}
+use mathlib.Core.Option.{none, some, none-ne-some}
 use Prim.Native.Nat.{ℕ, suc, ◌+◌, ◌≤◌}
 use lib.ListN.{length}
 use borrow.Author.Tests.{not-true}
@@ -18,7 +18,6 @@ use Rattle.static_rules.specs.Scope.{variables, is_input, is_output}
 use Rattle.static_rules.specs.Names.{type_faults, parameter_name, parameter_faults}
 use Rattle.declared_names.specs.NamesByNumber.{parameters_of}
 use Rattle.names.proofs.ReachTables.{Numbered}
-use Rattle.names.proofs.TypesAgreeTypes.{no-yes}
 use Rattle.names.proofs.TypesAgreeScope.{any_here}
 use Rattle.names.proofs.PassAgreesTables.{same-name, name-refl}
 use Rattle.names.proofs.PassAgreesTypes.{type-carries}
@@ -29,7 +28,7 @@ use Rattle.table_nodes.specs.TableByNumber.{Places}
 use Rattle.table_places.specs.ResolvedTable.{slot_of, Slots, slotted}
 use Rattle.table_places.specs.DossierTableByNumber.{parameter_slot, next_input, next_output, parameters_placed}
 use Rattle.search_groups.proofs.ScopePlaces.{slot-here, slot-there}
-use Rattle.tables.proofs.SlotPlaces.{none-some, first-or_later, Named, no_named, one_named, Once, no_once, one_once, into, into-some, Slotted, Below, write}
+use Rattle.tables.proofs.SlotPlaces.{first-or_later, Named, no_named, one_named, Once, no_once, one_once, into, into-some, Slotted, Below, write}
 use Rattle.tables.proofs.DeclaredPlaces.{group-one}
 use Rattle.refusals.proofs.FaultLists.{append_nil-both, unless-nil}
 use Rattle.std.proofs.lemmas.Bool.{false_from_ne_true}
@@ -73,7 +72,7 @@ unfolding numbered find
 numbered-off no_parameters i o y u = refl
 numbered-off (one_parameter {xs = xs} {y = x} {ys = ys} c f g h) i o y u =
     slot-there (parameter_name x, parameter_slot x.direction i o) (numbered ys (next_input x.direction i) (next_output x.direction o)) y
-    (false_from_ne_true (same_name (parameter_name x) y) (λ k. no-yes (sym f ∙ ap (λ (n : Name). called xs n) (same-name (parameter_name x) y k) ∙ u)))
+    (false_from_ne_true (same_name (parameter_name x) y) (λ k. absurd (false≢true (sym f ∙ ap (λ (n : Name). called xs n) (same-name (parameter_name x) y k) ∙ u))))
     ∙ numbered-off h (next_input x.direction i) (next_output x.direction o) y (called-there x xs y u)
 
 -- no later parameter has the name of an earlier one
@@ -96,7 +95,7 @@ numbered-ended (x ∷ ps) i o = one_named (direction-ending x.direction) (number
 -- a slot that is found behind another name's is found
 behind : (v : Name × ℕ) (N : Slots) (y : Name) (w : Name × ℕ) → slot_of N v.0 ≡ none → slot_of N y ≡ some w → slot_of (v ∷ N) y ≡ some w
 behind v N y w n e =
-    slot-there v N y (false_from_ne_true (same_name v.0 y) (λ k. none-some (sym (ap (λ (x : Name). slot_of N x) (sym (same-name v.0 y k)) ∙ n) ∙ e))) ∙ e
+    slot-there v N y (false_from_ne_true (same_name v.0 y) (λ k. none-ne-some _ (sym (ap (λ (x : Name). slot_of N x) (sym (same-name v.0 y k)) ∙ n) ∙ e))) ∙ e
 
 front : (v : Name × ℕ) (W N : Slots) (y : Name) (w : Name × ℕ) → slot_of (v ∷ W) y ≡ some w → (slot_of W y ≡ some w → slot_of N y ≡ some w) → slot_of (v ∷ N) y ≡ some w
 front v W N y w e r = first-or_later v W y w e (λ k l. slot-here v N y k ∙ l) (λ k l. slot-there v N y k ∙ r l)
@@ -120,8 +119,8 @@ module _ (gs : List Given) (y : Name) (w : Name × ℕ) where
   parameters_in : (e : Direction) {xs ps : List Parameter} → Parametrised gs xs ps → (i o : ℕ) → slot_of (slotted (parameter_slot e i o) (scopes.parameters_of gs e ps)) y ≡ some w
       → slot_of (numbered ps i o) y ≡ some w
   unfolding numbered scopes.parameters_of filter variables slotted find
-  parameters_in inward no_parameters i o q = none-some q
-  parameters_in outward no_parameters i o q = none-some q
+  parameters_in inward no_parameters i o q = absurd (none-ne-some _ q)
+  parameters_in outward no_parameters i o q = absurd (none-ne-some _ q)
   parameters_in e (one_parameter {y = x} {ys = ps} c f g h) i o q =
       parameter-one e x.direction x.declaration ps c g i o (numbered ps (next_input x.direction i) (next_output x.direction o))
       (later_off x h (next_input x.direction i) (next_output x.direction o)) (parameters_in e h (next_input x.direction i) (next_output x.direction o)) q

@@ -21,9 +21,6 @@ use Rattle.table_nodes.specs.TableByNumber.{Places}
 use Rattle.table_places.specs.ResolvedTable.{slot_of, Slots, slotted}
 use Rattle.search_groups.proofs.ScopePlaces.{slot-here, slot-there, PlaceIs, PlacesShown}
 
-pub none-some : {A B : Type 0} {a : A} → ◌≡◌ {A = Option A} none (some a) → B
-none-some e = absurd (none-ne-some _ e)
-
 pub no_slot : (o : Option (Name × ℕ)) → ((w : Name × ℕ) → o ≡ some w → ⊥) → o ≡ none
 no_slot none h = refl
 no_slot (some w) h = absurd (h w refl)
@@ -55,7 +52,7 @@ pub data Named (Q : Name → Type 0) : Slots → Type 0 where
 
 pub named-slot : {Q : Name → Type 0} {W : Slots} → Named Q W → (y : Name) (w : Name × ℕ) → slot_of W y ≡ some w → Q y
 unfolding find
-named-slot no_named y w e = none-some e
+named-slot no_named y w e = absurd (none-ne-some _ e)
 named-slot {Q} (one_named {w = v} {W = W} q h) y w e = first-or_later v W y w e (λ k l. subst Q (same-name v.0 y k) q) (λ k l. named-slot h y w l)
 
 pub named-map : {Q R : Name → Type 0} → ((y : Name) → Q y → R y) → {W : Slots} → Named Q W → Named R W
@@ -81,12 +78,12 @@ into-none (w ∷ W) f y e = on (same_name w.0 y) refl e (into-none W (entered w.
   where
     on : (b : Bool) → same_name w.0 y ≡ b → ◌≡◌ {A = Option (Name × ℕ)} (elim b [ true ↦ some w | false ↦ slot_of W y ]) none
         → (slot_of W y ≡ none → into W (entered w.0 w.1 f) y ≡ entered w.0 w.1 f y) → into W (entered w.0 w.1 f) y ≡ f y
-    on true k h r = none-some (sym h)
+    on true k h r = absurd (none-ne-some _ (sym h))
     on false k h r = r h ∙ ap (λ (b : Bool). cond b w.1 (f y)) k
 
 pub into-some : {W : Slots} → Once W → (f : Name → ℕ) (y : Name) (w : Name × ℕ) → slot_of W y ≡ some w → into W f y ≡ w.1
 unfolding into find
-into-some no_once f y w e = none-some e
+into-some no_once f y w e = absurd (none-ne-some _ e)
 into-some (one_once {w = v} {W = W} n h) f y w e =
     first-or_later v W y w e
     (λ k l. into-none W (entered v.0 v.1 f) y (ap (λ (x : Name). slot_of W x) (sym (same-name v.0 y k)) ∙ n)
@@ -134,14 +131,10 @@ slotted-names s (v ∷ vs) = ap (λ (l : List Name). v.called ∷ l) (slotted-na
 
 pub slotted-below : (s : ℕ) (vs : List Variable) (y : Name) (w : Name × ℕ) → slot_of (slotted s vs) y ≡ some w → w.1 < s + length vs
 unfolding slotted find
-slotted-below s [] y w e = none-some e
+slotted-below s [] y w e = absurd (none-ne-some _ e)
 slotted-below s (v ∷ vs) y w e =
     first-or_later (v.called, s) (slotted (suc s) vs) y w e (λ k l. let h = same-slot (v.called, s) w l in omega arith)
     (λ k l. omega (arith, slotted-below (suc s) vs y w l))
-
-pub names-append : {A B : Type 0} (f : A → B) (xs ys : List A) → map f (xs ++ ys) ≡ map f xs ++ map f ys
-names-append f [] ys = refl
-names-append f (x ∷ xs) ys = ap (λ (l : List _). f x ∷ l) (names-append f xs ys)
 
 -- ---- tables ----
 

@@ -81,16 +81,12 @@ dossier-rises d ρ =
     (rise (retrieve_from d ρ) (retrieve_from d ρ) (operations_from d ρ) (retrieve_at d + 2) ρ _ _ _ _ _ _ (le_refl (retrieve_from d ρ)) refl refl
     (operations-rise d ρ (operations_from d ρ) 0 (operations_at d) (operations_at d) _ d.operations [] s (omega arith))))))
 
--- the nodes of an array are as many as m
-codes-long : (d : Dossier) (ρ : Numbering) (nodes : List ℕ) (m : ℕ) → m ≤ length nodes → take m nodes ≡ dossier_codes d ρ → length (dossier_codes d ρ) ≡ m
-codes-long d ρ nodes m h e = ap length (sym e) ∙ length-take-le m nodes h
-
 -- each context's table stands at its place, if the array is as long as the nodes
 pub standing : (d : Dossier) (ρ : Numbering) (nodes : List ℕ) (m : ℕ) → m ≤ length nodes → take m nodes ≡ dossier_codes d ρ → (out table : List ℕ) → m ≤ length out
     → table ≡ table_of d ρ out → Standing table (contexts d) (slots_of d) (starts_of d ρ)
 unfolding table_of
 standing d ρ nodes m h e out table l w =
-    let n = codes-long d ρ nodes m h e in
+    let n : length (dossier_codes d ρ) ≡ m = ap length (sym e) ∙ length-take-le m nodes h in
     let g = declared-grows d ρ out in
     subst (λ (t : List ℕ). Standing t (contexts d) (slots_of d) (starts_of d ρ)) (sym w) (all-stand (dossier-rises d ρ) (declared d ρ out) (omega arith))
 
@@ -98,6 +94,6 @@ standing d ρ nodes m h e out table l w =
 pub rows_few : (d : Dossier) (ρ : Numbering) (nodes : List ℕ) (m : ℕ) → m ≤ length nodes → take m nodes ≡ dossier_codes d ρ → m ≤ 16384
     → length (context_rows (contexts d) (slots_of d) (starts_of d ρ)) ≤ 16384
 rows_few d ρ nodes m h e l =
-    let n = codes-long d ρ nodes m h e in
+    let n : length (dossier_codes d ρ) ≡ m = ap length (sym e) ∙ length-take-le m nodes h in
     let r = rows_fit (dossier-rises d ρ) in
     omega arith

@@ -1,6 +1,6 @@
 -- What is claimed of a tree: its table by numbers is the one by the definitions, where it has no faults. Parts one behind the other.
 use mathlib.Core.Path.{◌≡◌, refl, ap, ap₂, ◌∙◌, sym}
-use mathlib.Core.Bool.{Bool, true, ◌&&◌}
+use mathlib.Core.Bool.{Bool, true, ◌&&◌, false≢true}
 use mathlib.Core.List.{List, [], ◌∷◌, ◌++◌}
 use Prim.Native.Nat.{ℕ, suc, ◌+◌}
 use lib.ListN.{length, set}
@@ -19,7 +19,6 @@ use Rattle.static_rules.specs.Scope.{Scope, binding}
 use Rattle.static_rules.specs.Names.{Listing, whole, whole_pairs, known, new_name, divisor_faults, range_faults, domain_faults, domain_carrier, domain_length, judge_term, judge_items, judge_pairs, judge_pred}
 use Rattle.type_rules.specs.TypesByNumber.{Names, Sizes, bound, domain_kind}
 use Rattle.names.proofs.ReachTables.{Numbered, Shows, RangeIn, DomainIn, TermIn}
-use Rattle.names.proofs.TypesAgreeTypes.{no-yes}
 use Rattle.names.proofs.TypesAgreeParts.{whole-pairs-fit}
 use Rattle.names.proofs.TypesAgreeBinders.{judged-inside, bound-shows}
 use Rattle.table_nodes.specs.TableByNumber as table
@@ -79,7 +78,7 @@ all_from f g h (x ∷ xs) e = let k = all-parts f x xs e in all-more g x xs (h x
 -- pairs that fit have elements on their second sides
 fit-elements : (ts : List (Ty × Ty)) → pairs_fit ts ≡ true → Elements ts
 unfolding pairs_fit
-fit-elements [] e = no-yes e
+fit-elements [] e = absurd (false≢true e)
 fit-elements (t ∷ ts) e =
     let h = and_parts (has t.0 ty.is_element && has t.1 ty.is_element) (all (λ (u : Ty × Ty). same_type t.0 u.0 && same_type t.1 u.1) ts) e in
     let k = and_parts (has t.0 ty.is_element) (has t.1 ty.is_element) h.0 in

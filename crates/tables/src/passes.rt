@@ -1,6 +1,7 @@
 // The whole table, in the order of the text: where values are found, the carriers, then each predicate with the names in its reach.
 ghost use Rattle.std.specs.Prelude.{◌≡◌, ◌+◌, ◌-◌, ◌≤◌, ◌<◌, get_or};
 ghost use Rattle.node_spans.specs.Spans.{span};
+ghost use Rattle.node_spans.specs.StateSpans.{state_first};
 ghost use Rattle.table_places.specs.TablePromises.{TableRoom, PredicateSet, StateSet, StatesSet, ConditionsSet, SideSet, OperationSet, OperationsSet, ContextsSet, TableSet, TableWritten};
 
 use declared_names::declared::{hide, show};
@@ -9,6 +10,7 @@ use form::node;
 use lowering::Reading;
 use lowering::walk::pred;
 use names::{NAMES, SIZES};
+use node_spans::span::State;
 use node_spans::{OperationSpans, Parts, span};
 use parser::sections::{Bounds, States, between};
 use table_nodes::slots;
@@ -48,13 +50,19 @@ fn set_predicate(
     let _ = pred(&reading, end, slots::BOUND, names, places, out);
 }
 
-// The state whose numbers stand from the span k on: its variables are in use behind it.
-fn set_state(s: &Source<'_, '_>, k: usize, names: &mut [Kind], places: &mut [u16], out: &mut [u16])
-    requires { (k < 80) × TableRoom s.now.parts.nodes.now out.old }
-    ensures { StateSet s.now.parts.nodes.now (span s.now.parts.spans.now k) (span s.now.parts.spans.now (k + 1)) (span s.now.parts.spans.now (k + 2)) names.old names.new places.old places.new s.now.sizes.now out.old out.new }
+// A state: its variables are in use behind it.
+fn set_state(
+    s: &Source<'_, '_>,
+    state: State,
+    names: &mut [Kind],
+    places: &mut [u16],
+    out: &mut [u16],
+)
+    requires { TableRoom s.now.parts.nodes.now out.old }
+    ensures { StateSet s.now.parts.nodes.now (span s.now.parts.spans.now (state_first state)) (span s.now.parts.spans.now (state_first state + 1)) (span s.now.parts.spans.now (state_first state + 2)) names.old names.new places.old places.new s.now.sizes.now out.old out.new }
 {
-    let end = s.parts.span(k + span::STATE_END);
-    let variables = s.parts.variables(k);
+    let end = s.parts.span(state.first() + span::STATE_END);
+    let variables = s.parts.variables(state);
     show(variables, PLAIN, names);
     set_predicate(s, end, names, places, out);
     hide(variables, PLAIN, USED, names);
@@ -65,8 +73,8 @@ fn set_states(s: &Source<'_, '_>, names: &mut [Kind], places: &mut [u16], out: &
     requires { TableRoom s.now.parts.nodes.now out.old }
     ensures { StatesSet s.now.parts.nodes.now s.now.parts.spans.now names.old names.new places.old places.new s.now.sizes.now out.old out.new }
 {
-    set_state(s, span::ABSTRACT_FIRST, names, places, out);
-    set_state(s, span::CONCRETE_FIRST, names, places, out);
+    set_state(s, State::Abstract, names, places, out);
+    set_state(s, State::Concrete, names, places, out);
 }
 
 // ainit, cinit, retrieve.

@@ -25,7 +25,7 @@ pub fn is_blank(b: u8) -> bool
 }
 
 // The bytes of a text, or its symbols, from `from` up to `to`.
-// Form 4: no `Range<usize>`, which is not Copy: `Trial` and `say_left` of refusal_sides and `trimmed` of conjunct_texts use a span again that they have handed on.
+// Form 4: no `Range<usize>`, which is not Copy: `Trial` and `say_right` of refusal_sides and `trimmed` of conjunct_texts use a span again that they have handed on.
 #[derive(Clone, Copy)]
 pub struct Span {
     pub from: usize,

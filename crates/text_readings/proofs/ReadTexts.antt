@@ -14,11 +14,8 @@ use Rattle.refusals.specs.declared.Fault.{Fault}
 use Rattle.lexical.specs.Symbols.{length_faults}
 use Rattle.form.specs.Tree.{Dossier}
 use Rattle.static_rules.specs.Read.{Reading, refusal, reading, pass, read_symbols, read}
+pub use Rattle.reader.proofs.ReadGives.{IsRefusal}
 use Rattle.text_readings.specs.TextPromises.{Held, Faults, ReadAs, ReadsText}
-
-abbrev pub IsRefusal : Reading → Type 0
-IsRefusal (refusal f) = Unit {0}
-IsRefusal (reading d) = ⊥
 
 -- 1. "Text over 32,768 bytes; place 32,768."
 pub long-read : (t : List ℕ) → 32768 < length t → read t ≡ refusal (fault 32768 long_text)

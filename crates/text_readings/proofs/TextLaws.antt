@@ -1,11 +1,10 @@
 -- What is read of a text: its fault, or what the arrays hold of its dossier.
 use mathlib.Core.Path.{◌≡◌, refl, sym, ap, subst, ◌∙◌}
 use mathlib.Core.List.{List}
-use mathlib.Core.Option.{Option, none, some}
 use Prim.Native.Nat.{ℕ, ◌≤◌}
 use native.Mathlib.Omega.{arith}
 use lib.ListN.{length}
-use Rattle.refusals.specs.Refusals.{Fault, least}
+use Rattle.refusals.specs.Refusals.{least}
 use Rattle.refusals.specs.declared.Fault as refusals
 use Rattle.parser.specs.declared.Structure.{Structure}
 use Rattle.form.specs.Tree.{Dossier}
@@ -13,28 +12,25 @@ use Rattle.form.specs.Codes.{dossier_codes}
 use Rattle.parser.specs.Promises.{numbering, Parsed}
 use Rattle.std.specs.Prelude.{Ok, Err}
 use Rattle.static_rules.specs.Read as definition
-use Rattle.static_rules.specs.Read.{refusal, reading, pass, located, read_sizes, read_bindings, names_read, read}
+use Rattle.static_rules.specs.Read.{refusal, reading, located, read_sizes, read_bindings, names_read, read}
 use Rattle.static_rules.specs.Names.{name_faults}
 use Rattle.static_rules.specs.Limits.{binding_faults, size_faults}
 use Rattle.reader.specs.Promises.{Reads, ReadIs, Written, Kept, Stands}
 use Rattle.reader.proofs.ParsedReading.{Told, read_is}
-use Rattle.reader.proofs.ReadGives.{read-gives}
+use Rattle.reader.proofs.ReadGives.{past, same-dossier, read-gives}
 use Rattle.labels.proofs.ReadingsReadReadings.{read-reading}
 use Rattle.labels.proofs.ReadLabels.{read-labels}
 use Rattle.labels.proofs.SpeltNames.{spelt}
 use Rattle.text_readings.specs.TextPromises.{Held, ReadAs, ReadsText, Counted, Gathered}
 use Rattle.text_readings.proofs.ReadTexts.{IsRefusal}
 
-passed : (a b c : Option Fault) (x d : Dossier) → pass a (pass b (pass c (reading x))) ≡ reading d → x ≡ d
-passed (some f) b c x d e = absurd (subst IsRefusal e tt)
-passed none (some f) c x d e = absurd (subst IsRefusal e tt)
-passed none none (some f) x d e = absurd (subst IsRefusal e tt)
-passed none none none x d e = cc
-
 -- the dossier that the passes over names, bindings and sizes leave
 names-passed : (text : List ℕ) (x d : Dossier) → names_read text x ≡ reading d → x ≡ d
 unfolding names_read read_bindings read_sizes
-names-passed text x d e = passed (located text (least (name_faults x))) (located text (least (binding_faults x))) (located text (least (size_faults x))) x d e
+names-passed text x d e =
+    let n = past (located text (least (name_faults x))) (read_bindings text x) d e in
+    let b = past (located text (least (binding_faults x))) (read_sizes text x) d n.1 in
+    same-dossier x d (past (located text (least (size_faults x))) (reading x) d b.1).1
 
 -- the nodes of a text that is read
 record NodesOf (text starts nodes : List ℕ) (d : Dossier) : Type 0 where
@@ -93,21 +89,21 @@ module _ {text codes₀ starts₀ values₀ nodes₀ codes starts values nodes s
             (omega arith) w (λ x. spelt s.scans {x = x}) g.elements g.titles g.variables;
       }
 
-  counted : {m k : ℕ} (d : Dossier) → read text ≡ reading d → m ≡ length (dossier_codes d (numbering text)) → Counted nodes m k → k ≡ length d.operations
-  counted {m} d h j c =
-      let o = nodes-of q.parsed d c.long h (read_is q.parses) in
+  counted : {m k : ℕ} (d : Dossier) → length nodes ≡ 16384 → read text ≡ reading d → m ≡ length (dossier_codes d (numbering text)) → Counted nodes m k → k ≡ length d.operations
+  counted {m} d n h j c =
+      let o = nodes-of q.parsed d n h (read_is q.parses) in
       let s : Stands text starts nodes o.symbols_count m d = subst (λ (k : ℕ). Stands text starts nodes o.symbols_count k d) (sym j) o.stands in
       let b = s.short in
       c.exact d (numbering text) s.inside s.nodes_are (read-gives text d h).variables.operations (omega arith)
 
-  read_as : {s : Structure} {k : ℕ} {old labels : List ℕ} (x : definition.Reading) → read text ≡ x → Leaves x → length table₀ ≡ 16384 → length table ≡ 16384 → r ≡ Ok s
+  read_as : {s : Structure} {k : ℕ} {old labels : List ℕ} (x : definition.Reading) → read text ≡ x → Leaves x → length nodes ≡ 16384 → length table₀ ≡ 16384 → length table ≡ 16384 → r ≡ Ok s
       → Gathered nodes starts spans table groups s.numbers old labels → Counted nodes s.numbers k → ReadAs text table rows firsts groups labels x (Ok k)
   unfolding ReadAs
-  read_as (refusal f) h a l t e g c = absurd (as-is (refusal f) e a).0
-  read_as {s} (reading d) h a l t e g c =
+  read_as (refusal f) h a n l t e g c = absurd (as-is (refusal f) e a).0
+  read_as {s} (reading d) h a n l t e g c =
       let i = sym e ∙ a.0 in
       let j : s.numbers ≡ length (dossier_codes d (numbering text)) = numbers-of i in
-      (ap Ok (counted d h j c), held d c.long l t h j a.1 g)
+      (ap Ok (counted d n h j c), held d n l t h j a.1 g)
 
   -- a refusal
   pub text-refused : {f : refusals.Fault} (labels : List ℕ) → r ≡ Err f → ReadsText text table rows firsts groups labels (Err f)
@@ -117,6 +113,6 @@ module _ {text codes₀ starts₀ values₀ nodes₀ codes starts values nodes s
   pub nodes-few : {s : Structure} → length nodes ≡ 16384 → r ≡ Ok s → s.numbers ≤ 16384
   nodes-few l e = few-as (read text) refl q.answers l e
 
-  pub text-read : {s : Structure} {k : ℕ} {old labels : List ℕ} → length table₀ ≡ 16384 → length table ≡ 16384 → r ≡ Ok s → Gathered nodes starts spans table groups s.numbers old labels → Counted nodes s.numbers k
+  pub text-read : {s : Structure} {k : ℕ} {old labels : List ℕ} → length nodes ≡ 16384 → length table₀ ≡ 16384 → length table ≡ 16384 → r ≡ Ok s → Gathered nodes starts spans table groups s.numbers old labels → Counted nodes s.numbers k
       → ReadsText text table rows firsts groups labels (Ok k)
-  text-read l t e g c = record { answer = read_as (read text) refl q.answers l t e g c }
+  text-read n l t e g c = record { answer = read_as (read text) refl q.answers n l t e g c }

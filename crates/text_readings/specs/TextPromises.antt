@@ -40,7 +40,6 @@ pub record Lent (table rows firsts groups : List ℕ) (n : ℕ) (d : code.Dossie
 
 -- how many operations there are, where the first m nodes are those of a dossier
 pub record Counted (nodes : List ℕ) (m r : ℕ) : Type 0 where
-  pub long : length nodes ≡ 16384
   pub exact : (d : Dossier) (ρ : Numbering) → m ≤ length nodes → take m nodes ≡ dossier_codes d ρ → length d.operations ≤ 16 → m ≤ 65535 → r ≡ length d.operations
 
 -- the labels, one kind behind another

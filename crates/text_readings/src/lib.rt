@@ -16,23 +16,19 @@ use search_groups::conjuncts::FIRSTS;
 use search_groups::groups::GROUPS;
 
 // How many operations the dossier has whose nodes these are.
-fn operations(nodes: &[u16; NUMBERS], m: usize) -> usize
-    ensures { Counted nodes.now m result }
+fn operations(nodes: &Nodes<'_>) -> usize
+    ensures { Counted nodes.now.numbers.now nodes.now.end result }
 {
     let mut places = [0u16; span::COUNT];
-    let made = Nodes {
-        numbers: nodes,
-        end: m,
-    };
-    spans(&made, &mut places)
+    spans(nodes, &mut places)
 }
 
-// The labels of the dossier whose nodes these are.
-fn gather(x: &Sources<'_>, m: usize, labels: &mut [u16; LABELS])
-    requires { m ≤ 16384 }
-    ensures { Gathered x.now.nodes.now x.now.starts.now x.now.spans.now x.now.table.now x.now.groups.now m labels.old labels.new }
+// The labels of a dossier.
+fn gather(x: &Sources<'_>, labels: &mut [u16; LABELS])
+    requires { x.now.nodes.end ≤ 16384 }
+    ensures { Gathered x.now.nodes.numbers.now x.now.starts.now x.now.spans.now x.now.table.now x.now.groups.now x.now.nodes.end labels.old labels.new }
 {
-    gather_elements(x, m, labels);
+    gather_elements(x, labels);
     gather_titles(x, labels);
     gather_variables(x, labels);
 }
@@ -82,15 +78,19 @@ impl Arrays {
             &mut self.firsts,
         );
         let structure = answer?;
-        let n = operations(&nodes, structure.numbers);
+        let made = Nodes {
+            numbers: &nodes,
+            end: structure.numbers,
+        };
+        let n = operations(&made);
         let x = Sources {
-            nodes: &nodes,
+            nodes: made,
             starts: &starts,
             spans: &places,
             table: &self.table,
             groups: &self.groups,
         };
-        gather(&x, structure.numbers, &mut self.labels);
+        gather(&x, &mut self.labels);
         Ok(n)
     }
 

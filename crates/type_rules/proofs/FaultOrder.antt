@@ -13,10 +13,9 @@ use Rattle.std.specs.Prelude.{Option, None, Some}
 use Rattle.std.proofs.Common.{Ordering, Less, Equal, Greater, nat_cmp}
 use Rattle.std.specs.Option.{option_or}
 use Rattle.std.specs.Ordering.{MatchOrdering, is_lt, ord_min, ordering_then}
-use Rattle.std.specs.Cmp.{ranks}
+use Rattle.std.specs.Cmp.{ranks, booleans_Decides}
 use Rattle.std.specs.List.{list_all}
 use Rattle.std.proofs.lemmas.List.Folds.{list_all_at}
-use Rattle.form.proofs.LexicalBooleanTests.{beq-true}
 use Rattle.refusals.specs.Refusals as definition
 use Rattle.refusals.specs.Refusals.{number_of}
 use Rattle.refusals.specs.RefusalNames.{refusal_is}
@@ -81,7 +80,7 @@ of_all p h r = subst (λ (s : Refusal). p s ≡ true) (listed r).is (on (p (get_
 in-order : (r s : Refusal) → is_lt (RefusalOrder.cmp-value.it r s) ≡ ltb (number r) (number s)
 unfolding all_refusals number number_of
 in-order r s =
-    beq-true _ _
+    (booleans_Decides _ _).0
     (of_all (λ (y : Refusal). beq (is_lt (RefusalOrder.cmp-value.it r y)) (ltb (number r) (number y)))
     (of_all (λ (x : Refusal). list_all (λ (y : Refusal). beq (is_lt (RefusalOrder.cmp-value.it x y)) (ltb (number x) (number y))) all_refusals) refl r) s)
 

@@ -57,12 +57,14 @@ pub const NUMBER: Kind = Kind { code: 1 };
 pub const USED: Kind = Kind { code: 2 };
 
 impl Kind {
+    // Form 4: the derived comparison under the name that the definitions have; `k == entries::FREE` at the calls would say by numbers in each contract what `is_free` says there.
     pub fn is_free(self) -> bool
         ensures { result ≡ is_free self }
     {
         self == FREE
     }
 
+    // Form 4: as `is_free`.
     pub fn is_number(self) -> bool
         ensures { result ≡ is_number self }
     {
@@ -191,20 +193,18 @@ impl Kind {
 }
 
 // The given set g, counted from 1, and an element of it.
-pub fn given_set(g: u16) -> Kind
-    requires { g ≤ 8 }
+pub fn given_set(g: u8) -> Kind
     ensures { result ≡ 7 + g }
 {
     Kind {
-        code: GIVEN - 1 + g,
+        code: GIVEN - 1 + u16::from(g),
     }
 }
 
-pub fn element_of_set(g: u16) -> Kind
-    requires { g ≤ 8 }
+pub fn element_of_set(g: u8) -> Kind
     ensures { result ≡ 15 + g }
 {
     Kind {
-        code: ELEMENT - 1 + g,
+        code: ELEMENT - 1 + u16::from(g),
     }
 }

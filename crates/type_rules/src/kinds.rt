@@ -20,7 +20,7 @@ pub fn entry(names: &[Kind], x: usize) -> Kind
 }
 
 // The number at a place.
-// Form 1: behind the end it is 0, as FREE is what `entry` answers there; with an Option each of 18 calls would add `.unwrap_or(0)`.
+// Form 1: behind the end it is 0, as FREE is what `entry` answers there; with an Option each of the 16 calls would add `.unwrap_or(0)`.
 // Form 2: `at_or` with 0: the 0, which says nothing at any of these calls, stands here once.
 pub fn look(numbers: &[u16], x: usize) -> u16
     ensures { result ≡ get_or numbers.now x 0 }

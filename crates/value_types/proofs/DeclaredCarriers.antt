@@ -2,7 +2,7 @@
 use mathlib.Core.Path.{◌≡◌, refl, sym, ap, ◌∙◌, subst}
 use mathlib.Core.Bool.{Bool, true, false, not}
 use mathlib.Core.Logic.{inl, inr}
-use mathlib.Core.List.{List, [], ◌∷◌, ◌++◌, map}
+use mathlib.Core.List.{List, [], ◌∷◌, ◌++◌}
 use mathlib.Core.Option.{Option, some, none-ne-some, some-injective}
 use Prim.Native.Nat.{ℕ, zero, suc, ◌+◌, ◌*◌, ◌≤◌}
 use lib.ListN.{length, get_elem?}
@@ -24,6 +24,7 @@ use Rattle.value_types.proofs.Reach.{given_is}
 use Rattle.value_types.proofs.Binders.{range-fits}
 use Rattle.refusals.proofs.FaultLists.{append_nil-three, unless-nil}
 use Rattle.meaning.proofs.StaticRulesFaultless.{given-known}
+pub use Rattle.meaning.proofs.StaticRulesFoundCarriers.{declarations_of}
 use Rattle.meaning.proofs.StaticRulesFoundCarriers.{arrow-carrier, given-carrier, power-carrier, variables-one}
 
 -- a declared type whose given sets are known, and which fits if its numbers are at most 1,000
@@ -85,9 +86,6 @@ declarations-carry gs xs i [] e = tt
 declarations-carry gs xs i (d ∷ ds) e =
     let k = declaration-parts gs xs i d ds e in
     (type-carries gs d.type (i + 2) k.1, declarations-carry gs (d.declared ∷ xs) (i + 3 + length (write_type d.type [])) ds k.2)
-
-abbrev pub declarations_of : List Parameter → List Declaration
-declarations_of xs = map (λ (x : Parameter). x.declaration) xs
 
 parameter-parts : (gs : List Given) (xs : List Parameter) (i : ℕ) (y : Parameter) (ys : List Parameter) → parameter_faults gs xs i (y ∷ ys) ≡ []
     → (unless (not (any (λ (x : Parameter). same_name (parameter_name x) (parameter_name y)) xs)) (fault i name_in_use) ≡ [])

@@ -5,6 +5,7 @@ use mathlib.Core.List.{List, [], ◌∷◌, ◌++◌, map}
 use mathlib.Core.Option.{some}
 use Prim.Native.Nat.{ℕ, suc, ◌+◌}
 use lib.ListN.{get_elem?}
+use Rattle.std.specs.Simd.Lanes.{Each1}
 use Rattle.lexical.specs.Lists.{concat}
 use Rattle.lexical.specs.Symbols.{no_ending, prime}
 use Rattle.refusals.specs.Refusals.{Fault}
@@ -62,8 +63,7 @@ record Ready (c : Context) : Type 0 where
   few : PredBindsFew c.predicate 0
 
 unfoldable AllReady : List Context → Type 0
-AllReady [] = Unit {0}
-AllReady (c ∷ cs) = Ready c × AllReady cs
+AllReady cs = Each1 Ready cs
 
 ready-member : (cs : List Context) → AllReady cs → (c : Context) → Among c cs → Ready c
 unfolding AllReady Among

@@ -15,13 +15,13 @@ use Rattle.meaning.specs.FormTree.{End, Given, Prefix, negate, size, dom, ran, O
 use Rattle.meaning.specs.FormTree.{Term, number, name, group, prefix, binary, divided, listed, pairs, such, empty_set, empty_pairs}
 use Rattle.meaning.specs.StaticRulesCarriers.{Carrier, elements_of, numbers, subsets_of, pairs_in, Variable, largest, end_value, same_name, plain}
 use Rattle.meaning.specs.StaticRulesTypes.{Sort, is_number, is_element, is_set, is_pairs, Ty, type_of, has, same_type, is_any_set, are_numbers, prefix_fits, prefix_type, operator_fits, brace_type, brace_fits, pairs_type, pairs_fit}
-use Rattle.meaning.specs.StaticRulesScope.{Scope, element_of, type_of_name}
+use Rattle.meaning.specs.StaticRulesScope.{Scope, element_of, or_element, type_of_name}
 use Rattle.meaning.specs.StaticRulesNames.{judge_term, judge_items, judge_pairs}
 use Rattle.meaning.specs.StaticRulesLimits.{operator_size, prefix_size, division_size, size_term}
 use Rattle.meaning.proofs.LexicalBooleanTests.{and_left, and_right}
 use Rattle.meaning.specs.Values as val
 use Rattle.meaning.specs.Values.{Value, bits, prefix_value, operator_value, division_value}
-use Rattle.meaning.specs.Meaning.{Environment, element_value, value_of, size_of_given, number_values, value}
+use Rattle.meaning.specs.Meaning.{or_element as value_found, Environment, element_value, value_of, size_of_given, number_values, value}
 use Rattle.meaning.specs.Bindings.{values_of, Among}
 use Rattle.meaning.proofs.Members.{map-among}
 use Rattle.meaning.proofs.UpwardNumbers.{among-upward}
@@ -33,7 +33,7 @@ use Rattle.value_types.proofs.Reach.{Looked, nowhere, reached, looked}
 use Rattle.value_types.proofs.Binders.{end-abs}
 use Rattle.sets.proofs.Floor.{floor_abs, times_abs}
 use Rattle.value_types.proofs.Magnitudes.{negate_abs, plus_abs, minus-abs, remainder_abs, range-abs}
-use Rattle.value_types.proofs.TypedTerms.{type_found, value_found, term-typed}
+use Rattle.value_types.proofs.TypedTerms.{term-typed}
 
 -- ---- operations
 
@@ -80,7 +80,7 @@ carrier-sized gs (subsets_of g) v f m e = absurd (false≢true e)
 carrier-sized gs (pairs_in a g h) v f m e = absurd (false≢true e)
 
 found-sized : {gs : List Given} {o : Option Variable} {p : Option (Name × Value)} {q : Option (Name × ℕ)} → Looked gs o p q → (x : Name) (g : Option Given) (t : Ty)
-    → type_found o g ≡ some t → has t is_number ≡ true → nat_abs (value_found p (element_value g x)).code ≤ size_found q
+    → or_element o g ≡ some t → has t is_number ≡ true → nat_abs (value_found p (element_value g x)).code ≤ size_found q
 unfolding has
 found-sized nowhere x none t e h = absurd (none-ne-some t e)
 found-sized nowhere x (some g) t e h = absurd (false≢true (subst (λ (u : Ty). has u is_number ≡ true) (sym (some-injective (type_of (elements_of g)) t e)) h))

@@ -11,14 +11,14 @@ use Rattle.meaning.specs.FormTree.{Letters, Given, elements, union, relation}
 use Rattle.meaning.specs.FormTree.{Term, number, name, group, prefix, binary, divided, listed, pairs, such, empty_set, empty_pairs, Items, only, also, Pairs, only_pair, also_pair}
 use Rattle.meaning.specs.StaticRulesCarriers.{Variable, elements_of, size_of, same_name, given_of}
 use Rattle.meaning.specs.StaticRulesTypes.{Ty, is_pairs, type_of, set_of, pairs_of_types, is_any_set, has, brace_type, brace_fits, pairs_type, pairs_fit}
-use Rattle.meaning.specs.StaticRulesScope.{Scope, element_of, place_in, type_of_name}
+use Rattle.meaning.specs.StaticRulesScope.{Scope, element_of, place_in, or_element, type_of_name}
 use Rattle.meaning.specs.StaticRulesNames.{known, over_fault, judge_term, judge_items, judge_pairs}
 use Rattle.std.proofs.lemmas.Bool.{and_from}
 use Rattle.sets.proofs.Members.{set_below}
 use Rattle.sets.specs.Sets as sets
 use Rattle.meaning.specs.Values as val
 use Rattle.meaning.specs.Values.{Value, operator_value, singleton, single_pair}
-use Rattle.meaning.specs.Meaning.{Environment, element_value, value_of, with, size_of_given, value, items_value, pairs_value, holds}
+use Rattle.meaning.specs.Meaning.{or_element as value_found, Environment, element_value, value_of, with, size_of_given, value, items_value, pairs_value, holds}
 use Rattle.value_types.specs.TypedValues.{OfSort, HasType, InReach, Carried, TermWithin, ItemsWithin, PairsWithin}
 use Rattle.value_types.proofs.FaultlessParts as parts
 use Rattle.value_types.proofs.FaultlessParts.{bound_over}
@@ -27,19 +27,9 @@ use Rattle.value_types.proofs.Reach.{size_in, given_is, element-is, place-below,
 use Rattle.value_types.proofs.TypedOperations.{pairs-few, prefix-value, operator-value, single-typed, pair_typed}
 use Rattle.meaning.proofs.StaticRulesFaultless.{given-known}
 
--- the type and the value of a name: a variable's or bound one's, else an element's
-abbrev pub type_found : Option Variable → Option Given → Option Ty
-type_found (some v) g = some (type_of v.carrier)
-type_found none none = none
-type_found none (some g) = some (type_of (elements_of g))
-
-abbrev pub value_found : Option (Name × Value) → Value → Value
-value_found none v = v
-value_found (some b) v = b.1
-
 module _ (Γ : Scope) (ρ : Environment) (s : InReach Γ) (c : Carried Γ ρ) where
   found-typed : {o : Option Variable} {p : Option (Name × Value)} {q : Option (Name × ℕ)} → Looked Γ.givens o p q → (x : Name) (g : Option Given)
-      → element_of Γ.givens x ≡ g → (t : Ty) → type_found o g ≡ some t → HasType ρ t (value_found p (element_value g x))
+      → element_of Γ.givens x ≡ g → (t : Ty) → or_element o g ≡ some t → HasType ρ t (value_found p (element_value g x))
   found-typed nowhere x none e t h = absurd (none-ne-some t h)
   found-typed nowhere x (some g) e t h =
       let k = element-is Γ.givens x g e in

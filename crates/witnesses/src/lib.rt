@@ -9,7 +9,7 @@ ghost use Rattle.witnesses.specs.WitnessSteps.{BindAsked, BoundAt, LinesAsked, p
 
 use held_checks::{Obligation, obligation_of};
 use labels::Names;
-use lines::{Group, Side, put_group};
+use lines::{Group, Shown, Side, put_group};
 use part_places::{Found, part_cells};
 use pieces::Writer;
 use plans::Part;
@@ -70,24 +70,23 @@ fn bind_place(cells: &[u32; CELLS], p: Part, at: usize) -> [i64; SLOTS]
 }
 
 // The lines of all groups of a part; `row` is how far its operation's rows are from the first operation's. A group without variables leaves no line.
-// Form 5: a struct of the names and the values is five lines with its lifetime, for one parameter less here, and each of the five calls of `put_group`, which
-// takes both, would take it apart.
-fn put_groups(names: &Names<'_>, values: &[i64; SLOTS], p: Part, row: usize, w: &mut Writer<'_>)
+// Form 3: a loop over the five pairs of a side and a size would ask of each turn what is written so far, the pieces in front by cases over its number, where here each call adds its own.
+fn put_groups(s: &Shown<'_>, p: Part, row: usize, w: &mut Writer<'_>)
     requires at_in_bounds { w.old.at + 19350 ≤ length w.old.out.now }
     requires lines_asked { LinesAsked p row }
-    ensures lines { Adds (part_piece names.now.text.now names.now.labels.now p row values.now) w.old w.new }
+    ensures lines { Adds (part_piece s.now.names.text.now s.now.names.labels.now p row s.now.slots.now) w.old w.new }
     ensures short { w.new.at ≤ w.old.at + 19350 }
 {
     let abstracts = Group::of(Side::Abstract, row, p.abstracts.variables);
-    put_group(names, values, abstracts, w);
+    put_group(s, abstracts, w);
     let concretes = Group::of(Side::Concrete, row, p.concretes.variables);
-    put_group(names, values, concretes, w);
+    put_group(s, concretes, w);
     let inputs = Group::of(Side::Inputs, row, p.inputs.variables);
-    put_group(names, values, inputs, w);
+    put_group(s, inputs, w);
     let outputs = Group::of(Side::Outputs, row, p.outputs.variables);
-    put_group(names, values, outputs, w);
+    put_group(s, outputs, w);
     let primes = Group::of(Side::ConcretePrimed, row, p.primes.variables);
-    put_group(names, values, primes, w);
+    put_group(s, primes, w);
 }
 
 // How far the rows of the k-th part's operation are from the first operation's.
@@ -110,5 +109,9 @@ pub fn put_witness(names: &Names<'_>, d: &Dossier<'_>, f: Found, w: &mut Writer<
     let mut cells = [0u32; CELLS];
     let p = part_cells(d, f.part, &mut cells);
     let values = bind_place(&cells, p, f.at);
-    put_groups(names, &values, p, operation_row(f.part), w);
+    let shown = Shown {
+        names: *names,
+        slots: &values,
+    };
+    put_groups(&shown, p, operation_row(f.part), w);
 }

@@ -4,4 +4,4 @@ use Rattle.lines.proofs.LineLaws.{LinesLeft}
 use Rattle.lines.proofs.put_group.Given as goal
 
 abbrev pub invariant-loop-k : goal.invariant-loop-k
-invariant-loop-k l = LinesLeft l.names.text.now l.names.labels.now l.g.first l.g.count l.g.slot (ending_byte (ending_is l.g.ending)) l.slots l.initial.w l.k l.w
+invariant-loop-k l = LinesLeft l.s.names.text.now l.s.names.labels.now l.g.first l.g.count l.g.slot (ending_byte (ending_is l.g.ending)) l.s.slots.now l.initial.w l.k l.w

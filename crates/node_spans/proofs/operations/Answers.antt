@@ -1,10 +1,10 @@
 -- `operations` meets its contract: what is still to be read, and what is written, make the whole.
-use Prim.Native.Nat.{ℕ}
-use mathlib.Core.Path.{◌≡◌, subst, ◌∙◌}
+use Prim.Native.Nat.{◌+◌, ◌-◌}
+use mathlib.Core.Path.{◌≡◌, refl, ◌∙◌}
 use native.Mathlib.Omega.{arith}
-use lib.ListN.{take}
-use Rattle.node_spans.specs.SpanPromises.{OperationPut}
-use Rattle.node_spans.proofs.SpanWrites.{ahead-next, ahead-done}
+use lib.ListN.{drop, length-drop}
+use lib.Seq.{length-take-le}
+use Rattle.node_spans.proofs.SpanWrites.{part-length, ahead-next, ahead-done}
 use Rattle.node_spans.proofs.operations.Goals as goal
 
 pub loop-k-init : goal.loop-k-init
@@ -14,7 +14,12 @@ pub returns-then-made-at : goal.returns-then-made-at
 returns-then-made-at c = record { few = omega arith; counts = λ s₀ w n h l x. (ahead-done (c.loop-k.invariant.2 s₀ w n h x) (λ i e p. omega arith)).counts; fills = λ s₀ w n h l x. (ahead-done (c.loop-k.invariant.2 s₀ w n h x) (λ i e p. omega arith)).fills }
 
 pub loop-k-preserved : goal.loop-k-preserved
-loop-k-preserved c = (omega arith, c.operation-at.ensures.same ∙ c.loop-k.invariant.1, λ s₀ w n h x. ahead-next (c.loop-k.invariant.2 s₀ w n h x) (subst (λ (n : ℕ). OperationPut (take c.args.made.now.end c.args.made.now.numbers.now) c.args.made.now.end c.loop-k.at n c.loop-k.spans c.operation-at.new.spans c.operation-at.result) c.of_operation.ensures c.operation-at.ensures) h (omega arith))
+loop-k-preserved c =
+    let n = c.of_operation-n.result in
+    let spans = c.loop-k.spans in
+    let four : n + 4 - n ≡ 4 = omega arith in
+    let cut = length-take-le (n + 4 - n) (drop n spans) (omega (arith, c.of_operation-n.ensures, c.loop-k.invariant.1, length-drop n spans)) in
+    (omega arith, part-length n (n + 4 - n) spans c.operation-at.new.part (c.operation-at.ensures.same ∙ cut) (omega (arith, c.of_operation-n.ensures, c.loop-k.invariant.1)) ∙ c.loop-k.invariant.1, λ s₀ w m h x. ahead-next (c.loop-k.invariant.2 s₀ w m h x) c.operation-at.ensures refl cut four c.of_operation-n.ensures h (omega arith))
 
 pub returns : goal.returns
 returns c = record {

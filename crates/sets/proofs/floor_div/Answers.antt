@@ -1,29 +1,23 @@
--- `sets::floor_div` meets its contract: the machine's quotient is one too large exactly where the remainder is not 0 and not of the divisor's sign.
--- Assumes nothing.
-use native.Mathlib.Nat.{pos_of_ne-zero}
-use Rattle.sets.proofs.Floor.{is_zero, sign-of, zero-below, zero-above, quot_fits, less-fits, case-exact, case_same, case_other}
+-- `sets::floor_div` meets its contract: the library's quotient of the two numbers, whose signs are turned where the divisor is below 0. Assumes nothing.
+use mathlib.Core.Path.{◌≡◌, ap, ◌∙◌}
+use lib.IntN.{pos}
+use mir.Syntax.{w64}
+use mir.Val.{of_z, to_z}
+use Rattle.std.specs.Int.{int_div_euclid}
+use Rattle.sets.proofs.Floor.{Signed, kept, turned, answered, zero-below, zero-above}
 use Rattle.sets.proofs.floor_div.Goals as goal
-
-pub returns-then-a-lt0 : goal.returns-then-a-lt0
-returns-then-a-lt0 c = zero-below c.args.x c.args.y (is_zero c.ranges.x c.ranges.y c.from-a.ensures c.from-b.ensures c.if-b-eq0.true) (sign-of c.ranges.x c.ranges.y c.from-a.ensures c.from-b.ensures c.if-a-lt0.true)
-
-pub returns-else-a-lt0 : goal.returns-else-a-lt0
-returns-else-a-lt0 c = zero-above c.args.x c.args.y (is_zero c.ranges.x c.ranges.y c.from-a.ensures c.from-b.ensures c.if-b-eq0.true) (sign-of c.ranges.x c.ranges.y c.from-a.ensures c.from-b.ensures c.if-a-lt0.false)
-
-pub nonzero_div-q : goal.nonzero_div-q
-nonzero_div-q c = (pos_of_ne-zero c.if-b-eq0.false, quot_fits c.ranges.x c.ranges.y c.from-a.ensures c.from-b.ensures)
-
-pub nonzero_rem-r : goal.nonzero_rem-r
-nonzero_rem-r c = (pos_of_ne-zero c.if-b-eq0.false, quot_fits c.ranges.x c.ranges.y c.from-a.ensures c.from-b.ensures)
-
-pub returns-then-r-eq0 : goal.returns-then-r-eq0
-returns-then-r-eq0 c = case-exact c.ranges.x c.ranges.y c.from-a.ensures c.from-b.ensures c.if-b-eq0.false c.if-r-eq0.true
-
-pub returns-then-r-b : goal.returns-then-r-b
-returns-then-r-b c = case_same c.ranges.x c.ranges.y c.from-a.ensures c.from-b.ensures c.if-b-eq0.false c.if-r-b.true
-
-pub overflow_sub-result : goal.overflow_sub-result
-overflow_sub-result c = less-fits c.ranges.x c.ranges.y c.from-a.ensures c.from-b.ensures
+use Rattle.sets.proofs.floor_div.Goals.{then-b-lt0, else-b-lt0, then-a-lt0, else-a-lt0}
 
 pub returns : goal.returns
-returns c = case_other c.ranges.x c.ranges.y c.from-a.ensures c.from-b.ensures c.if-b-eq0.false c.if-r-eq0.false c.if-r-b.false
+returns c =
+    let s : Signed c.ranges.x c.ranges.y c.from-a.ensures c.from-b.ensures c.if-b-lt0.a.0 c.if-b-lt0.a.1 =
+    elim c.if-b-lt0.branch [
+      | then-b-lt0 w ↦ turned c.ranges.x c.ranges.y c.from-a.ensures c.from-b.ensures w.if-b-lt0.true (ap (λ p. p.0) w.a-is) (ap (λ p. p.1) w.a-is)
+      | else-b-lt0 w ↦ kept c.ranges.x c.ranges.y c.from-a.ensures c.from-b.ensures w.if-b-lt0.false (ap (λ p. p.0) w.a-is) (ap (λ p. p.1) w.a-is)
+    ] in
+    let d : to_z w64 c.if-a-lt0.unwrap_or-bits ≡ int_div_euclid (to_z w64 (of_z w64 c.if-b-lt0.a.0)) (pos 0) =
+    elim c.if-a-lt0.branch [
+      | then-a-lt0 w ↦ w.unwrap_or-is ∙ zero-below _ w.if-a-lt0.true
+      | else-a-lt0 w ↦ w.unwrap_or-is ∙ zero-above _ w.if-a-lt0.false
+    ] in
+    answered c.ranges.x c.ranges.y c.from-a.ensures c.from-b.ensures c.checked_div_euclid.result s c.checked_div_euclid.ensures d c.unwrap_or.ensures

@@ -1,6 +1,5 @@
 -- `operations` meets its contract.
-use borrow.Author.Rules.{rules}
 use Rattle.text_readings.proofs.operations.Goals as goal
 
 pub returns : goal.returns
-returns c = record { long = search rules; exact = λ d ρ l e few short. (c.spans.ensures.exact d ρ l e few short).0 }
+returns c = record { exact = λ d ρ l e few short. (c.spans.ensures.exact d ρ l e few short).0 }

@@ -29,7 +29,7 @@ put_group-requires-5 c =
     group-fits _ _ c.of-primes.ensures (omega (arith, a.primes)) (omega (arith, a.primes)) (omega (arith, c.requires.at_in_bounds, a.abstracts, a.concretes, a.inputs, a.outputs, a.primes, c.of-abstracts.ensures.1, c.put_group.ensures.lines.written.long, c.put_group.ensures.short, c.of-concretes.ensures.1, c.put_group-2.ensures.lines.written.long, c.put_group-2.ensures.short, c.of-inputs.ensures.1, c.put_group-3.ensures.lines.written.long, c.put_group-3.ensures.short, c.of-outputs.ensures.1, c.put_group-4.ensures.lines.written.long, c.put_group-4.ensures.short))
 
 pub returns-clause-lines : goal.returns-clause-lines
-returns-clause-lines c = five-written (group-as c.args.names.now.text.now c.args.names.now.labels.now c.args.values.now c.of-abstracts.ensures c.put_group.ensures.lines) (group-as c.args.names.now.text.now c.args.names.now.labels.now c.args.values.now c.of-concretes.ensures c.put_group-2.ensures.lines) (group-as c.args.names.now.text.now c.args.names.now.labels.now c.args.values.now c.of-inputs.ensures c.put_group-3.ensures.lines) (group-as c.args.names.now.text.now c.args.names.now.labels.now c.args.values.now c.of-outputs.ensures c.put_group-4.ensures.lines) (group-as c.args.names.now.text.now c.args.names.now.labels.now c.args.values.now c.of-primes.ensures c.put_group-5.ensures.lines)
+returns-clause-lines c = five-written (group-as c.args.s.now.names.text.now c.args.s.now.names.labels.now c.args.s.now.slots.now c.of-abstracts.ensures c.put_group.ensures.lines) (group-as c.args.s.now.names.text.now c.args.s.now.names.labels.now c.args.s.now.slots.now c.of-concretes.ensures c.put_group-2.ensures.lines) (group-as c.args.s.now.names.text.now c.args.s.now.names.labels.now c.args.s.now.slots.now c.of-inputs.ensures c.put_group-3.ensures.lines) (group-as c.args.s.now.names.text.now c.args.s.now.names.labels.now c.args.s.now.slots.now c.of-outputs.ensures c.put_group-4.ensures.lines) (group-as c.args.s.now.names.text.now c.args.s.now.names.labels.now c.args.s.now.slots.now c.of-primes.ensures c.put_group-5.ensures.lines)
 
 pub returns-clause-short : goal.returns-clause-short
 returns-clause-short c =

@@ -23,7 +23,7 @@ loop-read-init c = (likewise (only _ kind.plain (is-titled c.in_ok-title.was c.t
 
 pub loop-read-preserved : goal.loop-read-preserved
 unfolding compute_form
-loop-read-preserved c = let i = c.loop-read.invariant.0 in let t = is-few c.in_ok-few.was c.few.ensures in (next i (taken {μ = some_elements (c.loop-read.k + 1) ∷ []} {m = c.put-count.result} (an_element (c.loop-read.k + 1)) (omega arith) (count-well c.args.y.now.kinds.now c.loop-read.read.at (c.loop-read.k + 1) elements (omega arith)) (only _ kind.plain (sym c.kind_at.ensures.is ∙ c.loop-read-test.true) (λ γ. element-takes c.loop-read.k γ)) (here (omega arith)) (omega arith)), more-then c.loop-read.invariant.1 (more-node c.put-count.ensures (ap (λ y. node 4 c.loop-read.read.at y 0) c.name_number-x.ensures) (λ j u d. part.an_element (sym c.kind_at.ensures.is ∙ c.loop-read-test.true) d)), search rules, omega arith)
+loop-read-preserved c = let i = c.loop-read.invariant.0 in let t = is-few c.in_ok-few.was c.few.ensures in rw (c.with_node-read.ensures.0, c.skip.ensures.0) (next i (taken {μ = some_elements (c.loop-read.k + 1) ∷ []} {m = c.with_node-read.result.count} (an_element (c.loop-read.k + 1)) (omega arith) (count-well c.args.y.now.kinds.now c.loop-read.read.at (c.loop-read.k + 1) elements (omega arith)) (only _ kind.plain (sym c.kind_at.ensures.is ∙ c.loop-read-test.true) (λ γ. element-takes c.loop-read.k γ)) (here (omega arith)) (omega arith)), more-then c.loop-read.invariant.1 (more-node (rw c.skip.ensures.1 at c.with_node-read.ensures.1) (ap (λ y. node 4 c.loop-read.read.at y 0) c.name_number-x.ensures) (λ j u d. part.an_element (sym c.kind_at.ensures.is ∙ c.loop-read-test.true) d)), search rules, omega arith)
 
 pub returns-in_err-few : goal.returns-in_err-few
 unfolding compute_form

@@ -20,11 +20,11 @@ use Rattle.declarations.proofs.contents.type_form.Goals as goal
 
 pub returns-in_err-x : goal.returns-in_err-x
 unfolding compute_form
-returns-in_err-x c = rw (exits c.from_residual.result c.from_residual.ensures.1) (takes {μ = a_name ∷ []} {m = c.args.from.count} (omega arith) (only _ kind.POWER (sym c.kind_at-k.ensures.is ∙ c.if-k-eq-POWER.true) (λ γ. refl)) (unnamed c.in_err-x.was c.name_at.ensures (omega arith)) (omega arith), tt)
+returns-in_err-x c = rw (exits c.from_residual.result c.from_residual.ensures.1) (takes {μ = a_name ∷ []} {m = c.args.from.count} (omega arith) (only _ kind.POWER (sym c.kind_at-k.ensures.is ∙ c.if-k-eq-POWER.true) (λ γ. refl)) (unnamed c.in_err-x.was (rw c.skip-name.ensures.0 at c.name_at.ensures) (omega arith)) (omega arith), tt)
 
 pub returns-then-k-eq-POWER : goal.returns-then-k-eq-POWER
 unfolding compute_form
-returns-then-k-eq-POWER c = let x = name-read c.in_ok-x.was c.name_at.ensures in let i = name-inside x.0 in (takes {μ = a_name ∷ []} {m = c.args.from.count} (omega arith) (only _ kind.POWER (sym c.kind_at-k.ensures.is ∙ c.if-k-eq-POWER.true) (λ γ. refl)) (takes {μ = []} {m = c.put-count.result} (omega arith) (λ κ e γ. name-taken κ γ (name-class x.0 κ e)) (here (omega arith)) (omega arith)) (omega arith), made-node c.put-count.ensures (ap (λ y. node 3 c.args.from.at y 0) x.1) (over_sets (sym c.kind_at-k.ensures.is ∙ c.if-k-eq-POWER.true) x.0))
+returns-then-k-eq-POWER c = let x = name-read c.in_ok-x.was (rw c.skip-name.ensures.0 at c.name_at.ensures) in let i = name-inside x.0 in rw (c.with_node.ensures.0, c.skip.ensures.0, c.skip-name.ensures.0) (takes {μ = a_name ∷ []} {m = c.args.from.count} (omega arith) (only _ kind.POWER (sym c.kind_at-k.ensures.is ∙ c.if-k-eq-POWER.true) (λ γ. refl)) (takes {μ = []} {m = c.with_node.result.count} (omega arith) (λ κ e γ. name-taken κ γ (name-class x.0 κ e)) (here (omega arith)) (omega arith)) (omega arith), made-node (rw (c.skip.ensures.1, c.skip-name.ensures.1) at c.with_node.ensures.1) (ap (λ y. node 3 c.args.from.at y 0) x.1) (over_sets (sym c.kind_at-k.ensures.is ∙ c.if-k-eq-POWER.true) x.0))
 
 pub returns-then-not-is_name : goal.returns-then-not-is_name
 unfolding compute_form

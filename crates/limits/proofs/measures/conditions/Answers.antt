@@ -6,4 +6,4 @@ use Rattle.limits.proofs.SizePass.{reach-as, conditions-seen}
 use Rattle.limits.proofs.measures.conditions.Goals as goal
 
 pub returns : goal.returns
-returns c = let a = c.of-a.ensures in let b = c.of-c.ensures in conditions-seen c.args.p.now.nodes.now c.args.p.now.spans.now c.args.s.now.abstracts.now c.args.s.now.concretes.now [] _ _ _ c.args.bounds.now _ _ _ (fault_key c.context-f.result) (fault_key c.context-g.result) (fault_key c.context-h.result) _ refl c.span.ensures.0 c.span-2.ensures.0 c.span-3.ensures.0 (reach-as a.0 a.1 a.2 a.3 c.context-f.ensures) (reach-as b.0 b.1 b.2 b.3 c.context-g.ensures) (reach-as a.0 refl a.2 a.3 c.context-h.ensures) (c.lesser_of-2.ensures ∙ ap (lesser (fault_key c.context-f.result)) c.lesser_of.ensures)
+returns c = let a = c.of-a.ensures in let b = c.of-c.ensures in conditions-seen c.args.p.now.nodes.now c.args.p.now.spans.now _ _ [] _ _ _ c.args.bounds.now _ _ _ (fault_key c.context-f.result) (fault_key c.context-g.result) (fault_key c.context-h.result) _ c.states-s.ensures.abstracts c.states-s.ensures.concretes refl c.span.ensures.0 c.span-2.ensures.0 c.span-3.ensures.0 (reach-as a.0 a.1 a.2 a.3 c.context-f.ensures) (reach-as b.0 b.1 b.2 b.3 c.context-g.ensures) (reach-as a.0 refl a.2 a.3 c.context-h.ensures) (c.lesser_of-2.ensures ∙ ap (lesser (fault_key c.context-f.result)) c.lesser_of.ensures)

@@ -4,4 +4,4 @@ use Rattle.limits.proofs.SizePass.{operation-seen}
 use Rattle.limits.proofs.measures.operation.Goals as goal
 
 pub returns : goal.returns
-returns c = operation-seen c.args.p.now.nodes.now c.args.p.now.spans.now c.args.s.now.abstracts.now c.args.s.now.concretes.now _ c.args.k _ _ _ _ c.args.bounds.now _ _ (fault_key c.context-f.result) (fault_key c.context-g.result) _ c.operation-o.ensures.first c.operation-o.ensures.last c.parameters.ensures c.operation-o.ensures.middle c.operation-o.ensures.end c.context-f.ensures c.context-g.ensures c.lesser_of.ensures
+returns c = operation-seen c.args.p.now.nodes.now c.args.p.now.spans.now _ _ _ c.args.k _ _ _ _ c.args.bounds.now _ _ (fault_key c.context-f.result) (fault_key c.context-g.result) _ c.states-s.ensures.abstracts c.states-s.ensures.concretes c.operation-o.ensures.first c.operation-o.ensures.last c.parameters.ensures c.operation-o.ensures.middle c.operation-o.ensures.end c.context-f.ensures c.context-g.ensures c.lesser_of.ensures

@@ -7,4 +7,4 @@ use Rattle.limits.proofs.SizePassOperations.{OperationsOn}
 use Rattle.limits.proofs.measures.operations.Given as goal
 
 abbrev pub invariant-loop-k : goal.invariant-loop-k
-invariant-loop-k l = (l.k ≤ l.p.operations) × ((length l.bounds ≡ length l.initial.bounds) × (Clear l.initial.bounds → (l.bounds ≡ l.initial.bounds) × OperationsOn l.p.nodes.now l.p.spans.now l.p.operations l.s.abstracts.now l.s.concretes.now (length l.initial.bounds) l.k (fault_key l.f)))
+invariant-loop-k l = (l.k ≤ l.p.operations) × ((length l.bounds ≡ length l.initial.bounds) × (Clear l.initial.bounds → (l.bounds ≡ l.initial.bounds) × OperationsOn l.p.nodes.now l.p.spans.now l.p.operations (length l.initial.bounds) l.k (fault_key l.f)))

@@ -5,7 +5,7 @@ use Rattle.parser.proofs.BodyNodes.{sequence-known, contents-known, dossier-made
 use Rattle.parser.proofs.bodies.dossier.Goals as goal
 
 pub returns-then-read-y : goal.returns-then-read-y
-returns-then-read-y c = let h = (known c.in_ok-listed.was c.contents.ensures.0) in let i = next h (known c.in_ok-read.was c.bodies.ensures.0) in record { exact = text-goes-on i (omega arith); ended = omega arith; made = tt }
+returns-then-read-y c = let h = (known c.in_ok-listed.was c.contents.ensures.0) in let i = next h (known c.in_ok-read.was c.bodies.ensures.0) in rw c.no_dossier.ensures record { exact = text-goes-on i (omega arith); ended = omega arith; made = tt }
 
 pub returns : goal.returns
 returns c = let h = (known c.in_ok-listed.was c.contents.ensures.0) in let i = next h (known c.in_ok-read.was c.bodies.ensures.0) in record { exact = text-ends i (omega arith); ended = (omega arith, omega arith); made = dossier-made (contents-known c.in_ok-listed.was c.contents.ensures.1) (sequence-known c.in_ok-read.was c.bodies.ensures.1) }

@@ -19,7 +19,7 @@ pub loop-read-init : goal.loop-read-init
 loop-read-init c = (here (omega arith), more-none _ _ _, refl, omega arith)
 
 pub operation-requires : goal.operation-requires
-operation-requires c = let t = is-titled c.in_ok-title.was c.title.ensures in (record { inside = omega arith; written = omega arith; long = omega arith }, omega arith, sym c.kind_at.ensures.is ∙ c.loop-read-test.true, t.0)
+operation-requires c = let t = is-titled c.in_ok-title.was c.title.ensures in (record { inside = omega arith; written = omega arith; long = omega arith }, sym c.kind_at.ensures.is ∙ c.loop-read-test.true, t.0)
 
 pub loop-read-preserved : goal.loop-read-preserved
 unfolding compute_form

@@ -1,6 +1,6 @@
 use mathlib.Core.Path.{◌≡◌}
-use Rattle.search_groups.specs.GroupPromises.{slots_at, piece, LastsAhead}
+use Rattle.search_groups.specs.GroupPromises.{slots_at, LastsAhead}
 use Rattle.search_groups.proofs.conjuncts.lasts.Given as goal
 
 abbrev pub invariant-loop-n : goal.invariant-loop-n
-invariant-loop-n l = (l.n-iterator.size ≡ 4) × LastsAhead (slots_at l.n-iterator.rest.now) (slots_at (piece l.fn.table l.fn.from l.fn.end)) l.best
+invariant-loop-n l = (l.n-iterator.size ≡ 4) × LastsAhead (slots_at l.n-iterator.rest.now) (slots_at l.nodes) l.best

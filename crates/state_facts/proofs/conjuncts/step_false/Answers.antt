@@ -22,7 +22,15 @@ pub overflow_add-j-2 : goal.overflow_add-j-2
 overflow_add-j-2 c = omega (arith, c.requires.few)
 
 pub first_false-requires : goal.first_false-requires
-first_false-requires c = record { counted = λ i h. search (rules, h); asked = guard-context c.put_states.ensures c.put_parameters.ensures refl (omega (arith, c.if-s-c.false)) (omega (arith, c.if-s-i.false)) c.requires }
+first_false-requires c =
+    let z = c.default.ensures in
+    let s = (rw (z.0, z.1.1.1.0, z.1.1.1.1.1) at c.put_states.ensures) in
+    let q = (rw (z.0, z.1.1.1.0, z.1.1.1.1.1) at c.put_parameters.ensures) in
+    record { counted = λ i h. search (rules, h); asked = guard-context s q refl (omega (arith, c.if-s-c.false)) (omega (arith, c.if-s-i.false)) c.requires }
 
 pub returns : goal.returns
-returns c = step-first c.put_states.ensures c.put_parameters.ensures refl (omega (arith, c.if-s-c.false)) (omega (arith, c.if-s-i.false)) (guard-context-first (c.first_false.ensures.means (guard_test c.args.s.now.dossier.rows.now) (λ i b h q. search (rules, q))))
+returns c =
+    let z = c.default.ensures in
+    let s = (rw (z.0, z.1.1.1.0, z.1.1.1.1.1) at c.put_states.ensures) in
+    let q = (rw (z.0, z.1.1.1.0, z.1.1.1.1.1) at c.put_parameters.ensures) in
+    step-first s q refl (omega (arith, c.if-s-c.false)) (omega (arith, c.if-s-i.false)) (guard-context-first (c.first_false.ensures.means (guard_test c.args.s.now.dossier.rows.now) (λ i b h q. search (rules, q))))

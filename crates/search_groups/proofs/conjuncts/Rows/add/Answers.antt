@@ -8,4 +8,4 @@ use Rattle.search_groups.proofs.conjuncts.Rows.add.Goals as goal
 pub returns-then-self-room-clause-put : goal.returns-then-self-room-clause-put
 returns-then-self-room-clause-put c =
     let n = c.args.self.now.at in
-    row_put c.args.table.now c.args.from c.args.end n c.args.self.now.out.now _ (part-written n (n + 8 - n) c.args.self.now.out.now _ _ c.write.ensures (omega (arith, row-long))) (omega arith)
+    row_put c.args.table.now c.args.from _ n c.args.self.now.out.now _ (part-written n (n + 8 - n) c.args.self.now.out.now _ _ c.write.ensures (omega (arith, row-long))) (omega arith)

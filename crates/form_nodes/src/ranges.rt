@@ -14,6 +14,7 @@ use lexical::codes::is_name;
 use refusals::Fault;
 
 // A symbol of the kind with the code k.
+// Form 2: the literal is the body of `skip`, which asks that the place is at most 4,100: by it `close` would ask so of its callers.
 pub fn close(s: &[u8], from: Read, k: u8) -> Result<Read, Fault>
     requires { from.at ≤ length s.now }
     ensures { Closes s.now from.at k from.count result }

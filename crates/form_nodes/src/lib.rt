@@ -40,7 +40,7 @@ impl Read {
 
 // The fault at a symbol that fits nothing that may stand there.
 // Form 2: `differs` of parser makes the fault of another refusal. A method of `Refusal` that makes it would be called with the refusal named at each of the
-// nine calls of this one and the three of `differs`, for one function of three lines less.
+// nine calls of this one and the three of `differs`, for one function less.
 pub fn no_dossier(place: usize) -> Fault
     ensures { result ≡ record { place = place; refusal = NoDossier } }
 {

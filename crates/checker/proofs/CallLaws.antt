@@ -24,7 +24,7 @@ use Rattle.held_checks.specs.declared.Verdict as code
 use Rattle.held_checks.specs.HeldBytes.{bytes_of, none_held, verdict_marked, held_by}
 use Rattle.held_checks.specs.Answers.{Answer, refused, refused_at, loaded, verdict_is, dropped, answer_to, verdict_of, load_answer}
 use Rattle.held_checks.specs.CallPromises.{text_after, bytes_left, bytes_after, Responds}
-use Rattle.held_checks.specs.StepPromises.{mark_byte}
+use Rattle.held_checks.specs.StepPromises.{mark_byte, told_by}
 use Rattle.checker.specs.declared.Opened as opened
 use Rattle.checker.specs.OpenPromises.{Opened, Opens}
 use Rattle.text_readings.proofs.ReadTexts.{TextHeld}
@@ -114,12 +114,12 @@ module _ {b text table rows firsts groups labels : List ℕ} {mark place operati
   ]
 
   -- the verdict of a mark that speaks of no obligation
-  pub verdict-told : (v : code.Verdict) → (mark ≡ 1 → verdict_of v ≡ unfinished) × (mark ≡ 2 → verdict_of v ≡ accepted) × (mark ≡ 3 → ⊥) → Responds b verdict b [] (verdict_is (verdict_of v))
+  pub verdict-told : (mark ≡ 3 → ⊥) → {a : Answer} → a ≡ told_by mark → Responds b verdict b [] a
   unfolding verdict_marked
-  verdict-told v t = elim (one-of all place mark o.fits) [
-    | inl e ↦ subst (λ (k : Verdict). Responds b verdict b [] (verdict_is k)) (sym (t.0 e)) (verdict-as e)
-    | inr (inl e) ↦ subst (λ (k : Verdict). Responds b verdict b [] (verdict_is k)) (sym (t.1 e)) (verdict-as e)
-    | inr (inr e) ↦ absurd (t.2 e)
+  verdict-told f t = elim (one-of all place mark o.fits) [
+    | inl e ↦ subst (λ (k : Answer). Responds b verdict b [] k) (sym (t ∙ ap told_by e)) (verdict-as e)
+    | inr (inl e) ↦ subst (λ (k : Answer). Responds b verdict b [] k) (sym (t ∙ ap told_by e)) (verdict-as e)
+    | inr (inr e) ↦ absurd (f e)
   ]
 
 -- what the bytes were opened as, by what `ok_or` makes of it; and where nothing is held, the refusal of it

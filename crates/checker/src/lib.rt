@@ -105,8 +105,8 @@ pub fn verdict(held: &[u8; HELD]) -> Result<Verdict, Refusal>
 {
     let mut a = Arrays::new();
     let o = open_bytes(held, &mut a).ok_or(Refusal::NothingHeld)?;
-    if let Some(v) = told(o.mark) {
-        return Ok(v);
+    if o.mark != Mark::Refuted {
+        return told(o.mark.into());
     }
     let d = a.dossier(o.operations);
     let f = find(&d, o.place - 1);

@@ -180,7 +180,9 @@ fn named(y: &Symbols<'_>, from: Read, code: &mut [u16]) -> Result<Read, Fault>
         return Ok(arrow.with_node(code, shapes::SET, from.at, x, 0));
     };
     let to = arrow.skip();
-    let second = y.name_at(to.at)?;
+    let Ok(second) = y.name_at(to.at) else {
+        return Err(no_dossier(to.at));
+    };
     Ok(to.skip().with_node(code, shape, from.at, x, second))
 }
 

@@ -7,12 +7,13 @@ ghost use Rattle.std.specs.Prelude.{◌≡◌, ◌+◌, ◌-◌, ◌^◌, ◌<�
 ghost use Rattle.std.specs.Result.{result_ok};
 ghost use Rattle.table_nodes.specs.TableWalkPromises.{patch};
 ghost use Rattle.held_checks.specs.HeldBytes.{little_endian, from_bytes, bytes_of, none_held, is_laid, held_mark, held_place, fitting};
+ghost use Rattle.held_checks.specs.Answers.{verdict_answer};
 ghost use Rattle.held_checks.specs.BytePromises.{all_zero, Turned};
 ghost use Rattle.held_checks.specs.declared.LoadRefusal.TheVariants.{Faulty};
-ghost use Rattle.held_checks.specs.StepPromises.{Marks, mark_byte, Tells, place_after, mark_after, PartTold};
+ghost use Rattle.held_checks.specs.StepPromises.{Marks, mark_byte, told_by, place_after, mark_after, PartTold};
 
 use lexical::bounds::TEXT_BYTES;
-use refusals::Fault;
+use refusals::{Fault, Refusal};
 
 const MARK: usize = 0;
 
@@ -81,6 +82,11 @@ impl From<Mark> for u8 {
         mark as u8
     }
 }
+
+// The byte where nothing is held, and that of an unfinished check.
+const NOTHING: u8 = 0;
+
+const UNFINISHED: u8 = Mark::Unfinished as u8;
 
 // A byte that is of no mark.
 #[derive(Clone, Copy)]
@@ -241,14 +247,14 @@ pub fn come_to(
     place - from
 }
 
-// The verdict of a mark, where it speaks of no obligation.
-pub fn told(mark: Mark) -> Option<Verdict>
-    ensures { Tells (mark_byte mark) result }
+// What the call for the verdict answers by the byte of the mark, where it speaks of no obligation.
+pub fn told(mark: u8) -> Result<Verdict, Refusal>
+    ensures { verdict_answer result ≡ told_by mark }
 {
     match mark {
-        Mark::Unfinished => Some(Verdict::Unfinished),
-        Mark::Accepted => Some(Verdict::Accepted),
-        Mark::Refuted => None,
+        NOTHING => Err(Refusal::NothingHeld),
+        UNFINISHED => Ok(Verdict::Unfinished),
+        _ => Ok(Verdict::Accepted),
     }
 }
 

@@ -8,7 +8,7 @@ use Rattle.lexical.specs.Symbols.{no_ending}
 use Rattle.form.specs.Tree.{Letters, Quantifier, Domain}
 use Rattle.form.specs.Tree.{Term, number, name, group, prefix, binary, divided, listed, pairs, such, empty_set, empty_pairs, Items, only, also, Pairs, only_pair, also_pair}
 use Rattle.form.specs.Tree.{Pred, truth, falsity, negation, paren, quantified, connected, compared, member, within, related}
-use Rattle.form.specs.Codes.{Numbering, number_of_name, pred_width}
+use Rattle.form.specs.Codes.{Numbering, number_of_name, term_width, pred_width}
 use Rattle.static_rules.specs.Carriers.{plain}
 use Rattle.static_rules.specs.Names.{domain_length}
 use Rattle.static_rules.specs.Limits.{Sizes, domain_size, size_term, size_pred}
@@ -18,7 +18,7 @@ use Rattle.names.proofs.TypesAgreeLeast.{least-nil}
 use Rattle.names.proofs.TypesAgreeWidths.{domain-width}
 use Rattle.term_sizes.specs.SizesByNumber.{Bounds, prefix_bound, division_bound, term_bound, term_over, pred_over}
 use Rattle.limits.proofs.SizesAgreeScope.{SizesShown, bound-shown, domain-bound}
-use Rattle.limits.proofs.SizeWidths.{pred-next}
+use Rattle.limits.proofs.SizeWidths.{term-next, pred-next}
 use Rattle.limits.proofs.SizesAgreeParts.{TermHolds, ItemsHold, PairsHold, PredHolds, prefix-size, division-size, two-least, three-least, items-least, pairs-least, preds-least, binary-holds}
 
 -- what stands inside a quantifier: the bound name's size and the place of the predicate, by numbers and by the definitions
@@ -83,3 +83,8 @@ module _ (ρ : Numbering) (P : Letters → Type 0) (ν : Numbered ρ P) where
 pub measured_pred : (ρ : Numbering) (P : Letters → Type 0) → Numbered ρ P → (p : Pred) (Γ : Sizes) (S : Bounds) → SizesShown ρ P Γ S → PredIn P p → (i : ℕ)
     → (pred_over p S ρ i ≡ least_key (size_pred p Γ i).faults) × ((size_pred p Γ i).next ≡ i + pred_width p)
 measured_pred ρ P ν p Γ S s h i = (pred-holds ρ P ν p Γ S s h i, pred-next p Γ i)
+
+-- a term: the same, and its size
+pub measured-term : (ρ : Numbering) (P : Letters → Type 0) → Numbered ρ P → (t : Term) (Γ : Sizes) (S : Bounds) → SizesShown ρ P Γ S → TermIn P t → (i : ℕ)
+    → (term_over t S ρ i ≡ least_key (size_term t Γ i).faults) × ((size_term t Γ i).next ≡ i + term_width t) × (term_bound t S ρ ≡ (size_term t Γ i).bound)
+measured-term ρ P ν t Γ S s h i = let a = term-holds ρ P ν t Γ S s h i in (a.least, term-next t Γ i, a.bound)

@@ -1,5 +1,5 @@
 // The pass for number 13 over a whole dossier: every predicate with the sizes of the variables in its reach in a table.
-ghost use Rattle.std.specs.Prelude.{◌≡◌, [], ℕ, ◌+◌, ◌≤◌, length};
+ghost use Rattle.std.specs.Prelude.{◌≡◌, [], ℕ, ◌+◌, ◌≤◌, length, replicate};
 ghost use Rattle.type_rules.specs.TypesByNumber.{fault_key};
 ghost use Rattle.limits.specs.DossierSizesByNumber.{entry_size, marks, marked, ContextSeen, PartSeen, states_over, conditions_over, operations_over, OperationSeen, MeasuresSeen};
 
@@ -145,12 +145,29 @@ fn operations(p: &Parts<'_>, bounds: &mut [u16]) -> Option<Fault>
 pub fn measures(p: &Parts<'_>) -> Option<Fault>
     ensures { MeasuresSeen p.now.nodes.now p.now.spans.now p.now.operations 16384 (fault_key result) }
 {
+    let mut bounds = [0u16; NAMES];
+    measure(p, &mut bounds)
+}
+
+// The same for names with any numbers: their sizes in a table that is lent, of any length.
+// `bounds` may hold anything. What it holds afterwards is left open.
+pub fn measures_in(p: &Parts<'_>, bounds: &mut [u16]) -> Option<Fault>
+    ensures { MeasuresSeen p.now.nodes.now p.now.spans.now p.now.operations (length bounds.old) (fault_key result) }
+{
+    bounds.fill(0);
+    measure(p, bounds)
+}
+
+// The same with a table in which no name has a size.
+fn measure(p: &Parts<'_>, bounds: &mut [u16]) -> Option<Fault>
+    requires { bounds.old ≡ replicate (length bounds.old) 0 }
+    ensures { MeasuresSeen p.now.nodes.now p.now.spans.now p.now.operations (length bounds.old) (fault_key result) }
+{
     if span::ROOM < p.operations {
         return None;
     }
-    let mut bounds = [0u16; NAMES];
-    let f = states(p, &mut bounds);
-    let g = conditions(p, &mut bounds);
-    let h = operations(p, &mut bounds);
+    let f = states(p, bounds);
+    let g = conditions(p, bounds);
+    let h = operations(p, bounds);
     lesser_of(f, lesser_of(g, h))
 }

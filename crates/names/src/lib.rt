@@ -1,7 +1,7 @@
 // Names and types: numbers 8, 9, 10, 11 and 14 of document 01, over the nodes of a dossier.
 #![tactic(auto)]
 
-ghost use Rattle.std.specs.Prelude.{length, replicate};
+ghost use Rattle.std.specs.Prelude.{◌≡◌, length, replicate};
 ghost use Rattle.type_rules.specs.Passes.{refused_key};
 ghost use Rattle.declared_names.specs.PassPromises.{GivenSeen, CheckSeen};
 
@@ -26,23 +26,50 @@ pub const SIZES: usize = bounds::GIVEN_SETS as usize;
 pub fn least_fault(made: &Nodes<'_>, at: &Bounds, sizes: &mut [u16; SIZES]) -> Result<(), Fault>
     ensures { CheckSeen made.now.numbers.now made.now.end at.now.givens at.now.abstracts at.now.concretes at.now.ainit at.now.operations 16384 sizes.new (refused_key result) }
 {
-    let nodes = made.numbers;
     let mut names = [entries::FREE; NAMES];
+    check(made, at, &mut names, sizes)
+}
+
+// The same for names with any numbers, in a table that is lent, of any length.
+// `names` may hold anything too. What it holds afterwards is left open.
+pub fn least_fault_in(
+    made: &Nodes<'_>,
+    at: &Bounds,
+    names: &mut [Kind],
+    sizes: &mut [u16; SIZES],
+) -> Result<(), Fault>
+    ensures { CheckSeen made.now.numbers.now made.now.end at.now.givens at.now.abstracts at.now.concretes at.now.ainit at.now.operations (length names.old) sizes.new (refused_key result) }
+{
+    names.fill(entries::FREE);
+    check(made, at, names, sizes)
+}
+
+// The same with a table of names that are all free.
+fn check(
+    made: &Nodes<'_>,
+    at: &Bounds,
+    names: &mut [Kind],
+    sizes: &mut [u16; SIZES],
+) -> Result<(), Fault>
+    requires { names.old ≡ replicate (length names.old) 0 }
+    ensures { CheckSeen made.now.numbers.now made.now.end at.now.givens at.now.abstracts at.now.concretes at.now.ainit at.now.operations (length names.old) sizes.new (refused_key result) }
+{
+    let nodes = made.numbers;
     sizes.fill(0);
     let first = between(nodes, at.givens, at.abstracts);
-    give(first, &mut names, sizes)?;
+    give(first, names, sizes)?;
     let one = between(nodes, at.abstracts, at.concretes);
-    state(one, &mut names, sizes)?;
+    state(one, names, sizes)?;
     let two = between(nodes, at.concretes, at.ainit);
-    state(two, &mut names, sizes)?;
+    state(two, names, sizes)?;
     let states = States {
         abstracts: variables_of(one),
         concretes: variables_of(two),
     };
     let three = between(nodes, at.ainit, at.operations);
     let last = between(nodes, at.operations, made.end);
-    conditions(three, &states, &mut names, sizes)?;
-    operations(last, &states, &mut names, sizes)
+    conditions(three, &states, names, sizes)?;
+    operations(last, &states, names, sizes)
 }
 
 // The given sets by name, and how many elements each has, from the nodes of their bodies: the first fault of number 8 among them.

@@ -1,15 +1,16 @@
 -- What the functions promise each other. Nothing here need be believed.
-use Rattle.std.specs.Prelude.{◌≡◌, List, [], ◌∷◌, ◌++◌, ℕ, suc, ◌+◌, ◌*◌, ◌≤◌, length, drop, set}
+use Rattle.std.specs.Prelude.{◌≡◌, List, [], ◌∷◌, ◌++◌, ℕ, suc, ◌+◌, ◌*◌, ◌<◌, ◌≤◌, length, drop, set}
 use Rattle.parser.specs.Sections.{ItemAt, Run}
 
 -- the numbers w are written in front of s₀, and what stood behind them stays
 pub record Filled (s₀ s w : List ℕ) : Type 0 where
   pub filled : s ≡ w ++ drop (length w) s₀
 
--- the number n in the place k, where it has 16 bits
+-- the number n in the place k, and 0 for one that has more than 16 bits
 pub record NumberPut (k n : ℕ) (s s' : List ℕ) : Type 0 where
   pub same : length s' ≡ length s
   pub puts : n ≤ 65535 → s' ≡ set s k n
+  pub beyond : 65535 < n → s' ≡ set s k 0
 
 -- three numbers in front
 pub record Three (x y z : ℕ) (s s' : List ℕ) : Type 0 where

@@ -1,7 +1,7 @@
 // A page: the items of an explanation one behind the other, each a phrase and the numbers that are filled into it. An item for which there is no room is left out.
 #![tactic(auto)]
 
-ghost use Rattle.std.specs.Prelude.{◌≡◌, []};
+ghost use Rattle.std.specs.Prelude.{◌≡◌, [], ◌≤◌, length};
 ghost use Rattle.pages.specs.PagePromises.{with_item, plain, bound};
 
 use bounded_texts::Bounded;
@@ -83,7 +83,8 @@ impl Page {
 
     // The items that are said, the first one first.
     pub fn items(&self) -> &[Item]
-        ensures { result.now ≡ self.now }
+        ensures value { result.now ≡ self.now }
+        ensures within { length result.now ≤ 400 }
     {
         self.items.as_slice()
     }

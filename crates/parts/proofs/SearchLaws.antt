@@ -9,12 +9,12 @@ use native.Mathlib.Decide.{dec_lt}
 use lib.ListN.{length}
 use Rattle.form.specs.Tree.{Dossier}
 use Rattle.obligations.specs.Subjects.{subject_of}
-use Rattle.obligations.specs.Order.{total}
+use Rattle.obligations.specs.Order.{Look, total}
 use Rattle.nest.specs.NestStepsPartTests.{stopped_at, Looked}
 use Rattle.part_setup.specs.PartTestsPartOrder.{part_size, part_begin}
 use Rattle.part_setup.specs.ReadingsReadings.{ReadingOf}
 use Rattle.part_setup.proofs.PartTestsLookedChecks.{passes_place, looked-look, looked-none}
-use Rattle.parts.specs.SearchPromises.{LookAsked, LookAnswers, SearchAsked, SearchAnswers}
+use Rattle.parts.specs.SearchPromises.{LookAsked, LookAnswers, SearchAsked, SearchAnswers, SearchStops}
 use Rattle.parts.proofs.PartOrderLaws.{first-begin, next-begin, all_end, part-within}
 use Rattle.parts.proofs.ReadingSizes.{reading_small}
 use Rattle.parts.proofs.SearchSteps.{Continued, continued}
@@ -54,6 +54,10 @@ come-past m n h e = subst (λ (r : Option ℕ). (come_to m n r ≡ m) × (is_som
 come-through : (m n : ℕ) → m ≤ n → (failing : Option ℕ) → stopped_at n failing ≡ come_to m n failing
 come-through m n h None = omega arith
 come-through m n h (Some q) = refl
+
+-- what is looked at where all passes
+abbrev passed-look : (from at : ℕ) → Look
+passed-look from at = record { count = at - from; failed = false }
 
 module _ {table rows firsts groups : List ℕ} {operations from end : ℕ} where
   pub gone-start : {k begin at : ℕ} → from ≤ end → k ≡ 0 → begin ≡ 0 → at ≡ from → Gone table rows firsts groups operations from end k begin at
@@ -138,7 +142,20 @@ module _ {table rows firsts groups : List ℕ} {operations from end : ℕ} where
           s : begin + r ≡ begin + place
           s = ap (λ (r : Option ℕ). begin + come_to (at - begin) (min (end - begin) size) r) f
 
+      -- and there it stops
+      pub failed-stops : {place : ℕ} → failing ≡ Some place → SearchStops table rows firsts groups operations from end (begin + place) (Some (begin + place))
+      failed-stops f = let s = gone-failed f in record { low = s.low; looks = s.looks }
+
   -- the search came to its end
+  all-stops : (at : ℕ) → from ≤ at
+      → ((d : Dossier) → ReadingOf table rows firsts groups d → operations ≡ length d.operations → from ≤ total (subject_of d) → at ≡ min end (total (subject_of d)))
+      → SearchAnswers table rows firsts groups operations from end None
+      → SearchStops table rows firsts groups operations from end at None
+  all-stops at low ends answers = record {
+    low = low;
+    looks = λ d g m l. answers.looks d g m l ∙ ap (passed-look from) (sym (ends d g m l));
+  }
+
   passed-all : (at : ℕ) → from ≤ at → at ≤ end
       → ((d : Dossier) → ReadingOf table rows firsts groups d → operations ≡ length d.operations → from ≤ total (subject_of d) → at ≡ min end (total (subject_of d)))
       → ((d : Dossier) → ReadingOf table rows firsts groups d → operations ≡ length d.operations → from ≤ total (subject_of d) → Looked (passes_place (subject_of d)) from at at false)
@@ -151,15 +168,21 @@ module _ {table rows firsts groups : List ℕ} {operations from end : ℕ} where
         (subst (λ (n : ℕ). Looked (passes_place (subject_of d)) from n n false) e (passed d g m l));
   }
 
+  -- where it ends before the check does
+  end-is : {k begin at : ℕ} → Gone table rows firsts groups operations from end k begin at → at ≡ end
+      → (d : Dossier) → ReadingOf table rows firsts groups d → operations ≡ length d.operations → from ≤ total (subject_of d) → at ≡ min end (total (subject_of d))
+  end-is i e d g m l = omega (arith, i.inside d g m l)
+
   pub gone-end : {k begin at : ℕ} → Gone table rows firsts groups operations from end k begin at → at ≡ end → SearchAnswers table rows firsts groups operations from end None
-  gone-end {at = at} i e = passed-all at i.low i.high (λ d g m l. omega (arith, i.inside d g m l)) i.passed
+  gone-end {at = at} i e = passed-all at i.low i.high (end-is i e) i.passed
+
+  pub end-stops : {k begin at : ℕ} → Gone table rows firsts groups operations from end k begin at → at ≡ end → SearchStops table rows firsts groups operations from end at None
+  end-stops {at = at} i e = all-stops at i.low (end-is i e) (gone-end i e)
 
   -- or to that of the check
-  pub gone_whole : {k begin at : ℕ} → Gone table rows firsts groups operations from end k begin at → 1 + 2 * operations ≤ k
-      → SearchAnswers table rows firsts groups operations from end None
-  gone_whole {k} {begin} {at} i h =
-      passed-all at i.low i.high
-      (λ d g m l.
+  whole-is : {k begin at : ℕ} → Gone table rows firsts groups operations from end k begin at → 1 + 2 * operations ≤ k
+      → (d : Dossier) → ReadingOf table rows firsts groups d → operations ≡ length d.operations → from ≤ total (subject_of d) → at ≡ min end (total (subject_of d))
+  whole-is {k} {begin} {at} i h d g m l =
       let s : k ≡ 1 + 2 * length d.operations = omega (arith, i.within) in
       let b : begin ≡ total (subject_of d) = i.begins d g m ∙ ap (part_begin d) s ∙ all_end d in
       let x : at ≤ total (subject_of d) = i.inside d g m l in
@@ -167,5 +190,12 @@ module _ {table rows firsts groups : List ℕ} {operations from end : ℕ} where
       elim (dec_lt at end) [
         | yes t ↦ (let z : begin ≤ at = i.behind t in omega arith)
         | no t ↦ omega arith
-      ])
-      i.passed
+      ]
+
+  pub gone_whole : {k begin at : ℕ} → Gone table rows firsts groups operations from end k begin at → 1 + 2 * operations ≤ k
+      → SearchAnswers table rows firsts groups operations from end None
+  gone_whole {at = at} i h = passed-all at i.low i.high (whole-is i h) i.passed
+
+  pub whole-stops : {k begin at : ℕ} → Gone table rows firsts groups operations from end k begin at → 1 + 2 * operations ≤ k
+      → SearchStops table rows firsts groups operations from end at None
+  whole-stops {at = at} i h = all-stops at i.low (whole-is i h) (gone_whole i h)

@@ -87,3 +87,9 @@ pub record SearchAnswers (table rows firsts groups : List ℕ) (operations from 
   pub looks : (d : Dossier) → ReadingOf table rows firsts groups d → operations ≡ length d.operations → from ≤ total (subject_of d)
       → look (subject_of d) (take (end - from) (drop from (checks (subject_of d))))
       ≡ record { count = counted from (stopped_at (min end (total (subject_of d))) failing) (is_some failing); failed = is_some failing }
+
+-- the same by the place where it stopped, at the end too
+pub record SearchStops (table rows firsts groups : List ℕ) (operations from end at : ℕ) (failing : Option ℕ) : Type 0 where
+  pub low : from ≤ at
+  pub looks : (d : Dossier) → ReadingOf table rows firsts groups d → operations ≡ length d.operations → from ≤ total (subject_of d)
+      → look (subject_of d) (take (end - from) (drop from (checks (subject_of d)))) ≡ record { count = counted from at (is_some failing); failed = is_some failing }

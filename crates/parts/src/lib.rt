@@ -4,7 +4,7 @@
 #![tactic(auto)]
 
 ghost use Rattle.std.specs.Prelude.{◌^◌, ◌<◌, ◌≤◌};
-ghost use Rattle.parts.specs.SearchPromises.{PartAsked, PartAnswers, LookAsked, LookAnswers, SearchAsked, SearchAnswers};
+ghost use Rattle.parts.specs.SearchPromises.{PartAsked, PartAnswers, LookAsked, LookAnswers, SearchAsked, SearchAnswers, SearchStops};
 
 use crate::ready::{PartArrays, set_part};
 use held_checks::{OBLIGATIONS, OPENING};
@@ -21,6 +21,13 @@ mod ready;
 #[derive(Clone, Copy)]
 pub struct PartLooked {
     pub size: usize,
+    pub failing: Option<usize>,
+}
+
+// What a search of the parts came to: the place at which it stopped, and that place again where it fails.
+#[derive(Clone, Copy)]
+pub struct Stopped {
+    pub at: usize,
     pub failing: Option<usize>,
 }
 
@@ -68,19 +75,33 @@ pub fn search(d: &Dossier<'_>, from: usize, end: usize) -> Option<usize>
     requires search_asked { SearchAsked d.now.table.now d.now.rows.now d.now.firsts.now d.now.groups.now d.now.operations from }
     ensures { SearchAnswers d.now.table.now d.now.rows.now d.now.firsts.now d.now.groups.now d.now.operations from end result }
 {
+    search_on(d, from, end).failing
+}
+
+// The same, and where it stopped: how many places it looked at is told where none of them fails, too.
+pub fn search_on(d: &Dossier<'_>, from: usize, end: usize) -> Stopped
+    requires from_le_end { (from ≤ end) × (end < 2 ^ 62) }
+    requires search_asked { SearchAsked d.now.table.now d.now.rows.now d.now.firsts.now d.now.groups.now d.now.operations from }
+    ensures answers { SearchAnswers d.now.table.now d.now.rows.now d.now.firsts.now d.now.groups.now d.now.operations from end result.failing }
+    ensures stops { SearchStops d.now.table.now d.now.rows.now d.now.firsts.now d.now.groups.now d.now.operations from end result.at result.failing }
+{
     let parts = OPENING + OBLIGATIONS * d.operations;
     let mut at = from;
     let mut begin: usize = 0;
     for k in 0..parts {
         if at == end {
-            return None;
+            return Stopped { at, failing: None };
         }
         let w = look(d, k, at - begin, end - begin);
         if let Some(place) = w.failing {
-            return Some(begin + place);
+            let at = begin + place;
+            return Stopped {
+                at,
+                failing: Some(at),
+            };
         }
         begin += w.size;
         at = at.max(end.min(begin));
     }
-    None
+    Stopped { at, failing: None }
 }

@@ -98,6 +98,7 @@ pub(crate) fn set_part(d: &Dossier<'_>, k: usize, a: &mut PartArrays) -> Part
 
 // Initialisation, in arrays of its own.
 // Form 2: over `set_part` it and `ready_correctness` would be one function, but that promises the nest of a part (`PartReady`), not the plan, the cells and the sizes that each of these promises.
+#[inline(always)]
 pub fn ready_opening(d: &Dossier<'_>) -> ReadyPart
     requires { LookAsked d.now.table.now d.now.rows.now d.now.firsts.now d.now.groups.now 0 }
     ensures { OpeningReady d.now.table.now d.now.rows.now d.now.firsts.now d.now.groups.now result.plan result.cells result.part }
@@ -115,6 +116,7 @@ pub fn ready_opening(d: &Dossier<'_>) -> ReadyPart
 }
 
 // Correctness of operation j.
+#[inline(always)]
 pub fn ready_correctness(d: &Dossier<'_>, j: usize) -> ReadyPart
     requires { LookAsked d.now.table.now d.now.rows.now d.now.firsts.now d.now.groups.now (2 + 2 * j) }
     ensures { CorrectnessReady d.now.table.now d.now.rows.now d.now.firsts.now d.now.groups.now j result.plan result.cells result.part }

@@ -1,6 +1,8 @@
 // Phrases: the words of explanations with what is filled in, written on a sheet. Facts come as an item's numbers and as values in slots; what is written has no promise.
 #![tactic(auto)]
 
+ghost use Rattle.std.specs.Prelude.{◌≤◌};
+
 use crate::groups::{DEEPER, Pen};
 use crate::inserts::{Insert, insert_of};
 use crate::texts::{ending_byte, put_symbols, put_underlined};
@@ -30,13 +32,15 @@ const TILDE: u8 = b'~';
 const PLACE: &[u8] = b"$";
 
 // Behind the next newline.
-fn next_line(words: &[u8], from: usize) -> usize {
+fn next_line(words: &[u8], from: usize) -> usize
+    ensures { from ≤ result }
+{
     words
         .get(from..)
         .unwrap_or(&[])
         .iter()
         .position(|b| *b == NEWLINE)
-        .map_or(words.len(), |k| from + k + 1)
+        .map_or(from.max(words.len()), |k| from + k + 1)
 }
 
 // The words of the n-th phrase: behind the n-th tilde's line, up to the next tilde.

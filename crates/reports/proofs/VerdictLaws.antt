@@ -1,6 +1,6 @@
 -- The lines of a verdict from what the search came to: those of a refuted check at the place where it failed, those of an accepted one.
 use mathlib.Core.Path.{◌≡◌, refl, sym, ap, subst, ◌∙◌}
-use Rattle.std.specs.Prelude.{None, Some}
+use Rattle.std.specs.Prelude.{Option, None, Some, unwrap_or}
 use mathlib.Core.Bool.{true, false}
 use mathlib.Core.List.{List, ◌++◌}
 use Prim.Native.Nat.{ℕ, suc, min, ◌+◌, ◌^◌, ◌<◌, ◌≤◌}
@@ -68,6 +68,10 @@ module _ {table rows firsts groups : List ℕ} {operations : ℕ} (d : Dossier) 
           let n = r.operations in
           told-case (λ (x : Obligation). listed x ≡ true) part t (λ e. refl) (λ j e. lt-ltb j 16 (omega arith)) (λ j e. lt-ltb j 16 (omega arith))
 
+    pub count-small : {failing : Option ℕ} → SearchAnswers table rows firsts groups operations 0 all failing → unwrap_or failing all < 2 ^ 62
+    count-small {failing = Some at} s = let i = place_small s in omega arith
+    count-small {failing = None} s = let i = all_small in omega arith
+
 -- the first line of the obligation at a place of a part
 module _ {text labels before after : List ℕ} {part q from x : ℕ} {o : code.Obligation} (t : PartTold part o) (d : Dossier) (l : LabelsOf text labels d) (h : part < parts d) (low : q < part_size d part)
     (w : LineWritten text labels (obligation_is o) from before after x) where
@@ -116,15 +120,16 @@ module _ {text labels table rows firsts groups : List ℕ} {operations : ℕ} (k
         omega (arith, line.short, lines.short, count.end);
   }
 
-  accepted-written : {from x r : ℕ} {before a after : List ℕ} → SearchAnswers table rows firsts groups operations 0 all None → Writes from (bytes "accepted\n") before a x
-      → Writes x (count_line all) a after r → VerdictWritten text labels table rows firsts groups operations from before after r
-  accepted-written {from} {x} {r} {before} {a} {after} s word count = record {
+  accepted-written : {from x n r : ℕ} {before a after : List ℕ} → SearchAnswers table rows firsts groups operations 0 all None → Writes from (bytes "accepted\n") before a x
+      → n ≡ all → Writes x (count_line n) a after r → VerdictWritten text labels table rows firsts groups operations from before after r
+  accepted-written {from} {x} {n} {r} {before} {a} {after} s word looks count = record {
     lines = λ d g l m.
         let e : look (subject_of d) (checks (subject_of d)) ≡ came all false = whole-look None d s g m (t.is d (reading-groups g) m) ∙ ap (λ (n : ℕ). came n false) (least-self all) in
-        subst (λ (z : List ℕ). Writes from z before after r) (sym (accepted-lines d all e)) (both-written word count);
+        let u : Writes x (count_line all) a after r = subst (λ (c : ℕ). Writes x (count_line c) a after r) looks count in
+        subst (λ (z : List ℕ). Writes from z before after r) (sym (accepted-lines d all e)) (both-written word u);
     short =
         let z = all_small k.dossier k.arrays k.many t in
-        omega (arith, accepted-long, word.end, count-short all (omega arith), count.end);
+        omega (arith, accepted-long, word.end, count-short n (omega arith), count.end);
   }
 
   module _ {old new : Writer} where
@@ -136,6 +141,6 @@ module _ {text labels table rows firsts groups : List ℕ} {operations : ℕ} (k
       written = refuted-written s p told line.written lines.written looks count.written;
     }
 
-    pub accepted-added : {a : Writer} → SearchAnswers table rows firsts groups operations 0 all None → Adds (bytes "accepted\n") old a → Adds (count_line all) a new
+    pub accepted-added : {n : ℕ} {a : Writer} → SearchAnswers table rows firsts groups operations 0 all None → Adds (bytes "accepted\n") old a → n ≡ all → Adds (count_line n) a new
         → AddsVerdict text labels table rows firsts groups operations old new
-    accepted-added s word count = record { same_bytes = count.same_bytes ∙ word.same_bytes; written = accepted-written s word.written count.written }
+    accepted-added s word looks count = record { same_bytes = count.same_bytes ∙ word.same_bytes; written = accepted-written s word.written looks count.written }

@@ -9,7 +9,7 @@ ghost use Rattle.pieces.specs.PiecePromises.{Adds, letters_at};
 ghost use Rattle.reports.specs.ReportPromises.{Reported, RefutedLine, AddsLine, VerdictAsked, AddsVerdict, refusal_piece, listed};
 ghost use Rattle.held_checks.specs.Answers.{obligation_is};
 
-use held_checks::{Obligation, obligation_of};
+use held_checks::{Obligation, counted, obligation_of};
 use labels::{Names, TITLES};
 use lexical::bounds::OPERATIONS;
 use part_places::{find, total};
@@ -87,15 +87,16 @@ fn put_verdict(names: &Names<'_>, d: &Dossier<'_>, w: &mut Writer<'_>)
 {
     let all = total(d);
     let found = search(d, 0, all);
+    let n = counted(found, all);
     let Some(place) = found else {
         w.put_all(b"accepted\n");
-        put_count(all, w);
+        put_count(n, w);
         return;
     };
     let f = find(d, place);
     put_refuted(names, obligation_of(f.part), w);
     put_witness(names, d, f, w);
-    put_count(place + 1, w);
+    put_count(n, w);
 }
 
 // The report of a text in front of the lent bytes, and its length. 1,536 KiB of stack are enough for every text, as for the calls (crates/checker).

@@ -8,7 +8,7 @@
 
 pub mod conjuncts;
 pub mod omissions;
-mod placing;
+pub mod placing;
 pub mod searches;
 
 ghost use Rattle.std.specs.Prelude.{◌≡◌, ◌+◌, ◌*◌, ◌<◌, ◌≤◌};
@@ -31,6 +31,7 @@ pub struct Pair {
 }
 
 // The search among the states of the k-th part.
+#[inline(always)]
 fn state_search<'a>(d: &Dossier<'a>, k: usize) -> StateSearch<'a>
     requires { PartAsked d.now.table.now d.now.groups.now k }
     ensures dossier { result.dossier ≡ d.now }
@@ -66,6 +67,7 @@ impl<'a> Model for PairSearch<'a> {
 }
 
 // That of a dossier that was read.
+#[inline(always)]
 fn pair_search<'a>(d: &ReadDossier<'a>) -> PairSearch<'a>
     ensures dossier { result.dossier ≡ d.now }
     ensures cells { PartSet d.now.table.now d.now.groups.now 0 result.cells result.part }

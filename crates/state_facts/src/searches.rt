@@ -42,6 +42,14 @@ pub fn concrete_states(d: &ReadDossier<'_>) -> usize
         .count()
 }
 
+// The next concrete state.
+pub fn next_concrete_state(d: &ReadDossier<'_>, from: usize) -> Option<usize>
+    ensures { Next d.now.table.now d.now.rows.now d.now.firsts.now d.now.groups.now d.now.operations concrete_state_at concrete_count from result }
+{
+    let s = pair_search(d);
+    (from..s.search.part.concretes.bindings).find(|&c| concrete_state_at(&s.search, c))
+}
+
 // Are the two bindings states that retrieve relates?
 fn related_at(s: &PairSearch<'_>, x: Pair) -> bool
     requires x_bound { (x.a < s.now.part.meeting.bindings) × (x.c < s.now.part.concretes.bindings) }

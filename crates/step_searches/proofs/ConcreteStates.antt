@@ -1,12 +1,12 @@
 -- Concrete states by the numbers of their bindings: the slots hold the c-th binding, the test of the state's predicate answers for it, and a loop stops at the first that is a state.
 -- Assumes nothing.
-use mathlib.Core.Path.{◌≡◌, sym, subst, ◌∙◌}
+use mathlib.Core.Path.{◌≡◌, sym, ap, subst, ◌∙◌}
 use mathlib.Core.Bool.{Bool}
 use mathlib.Core.List.{List, [], ◌∷◌}
 use Prim.Native.Nat.{ℕ, suc, ◌<◌}
 use lib.ListN.{get_or, length}
 use lib.IntN.{ℤ, pos}
-use Rattle.form.specs.Tree.{Dossier}
+use Rattle.form.specs.Tree.{Operation, Dossier}
 use Rattle.static_rules.specs.Carriers.{Variable}
 use Rattle.static_rules.specs.Limits.{binding_count}
 use Rattle.static_rules.specs.Scope.{unprimed}
@@ -26,7 +26,29 @@ use Rattle.states.proofs.StateLaws.{concrete-context, asked-at, answer_at}
 use Rattle.points.proofs.PointBindings.{variable-counts}
 use Rattle.plans.specs.declared.Part.{Part}
 use Rattle.part_setup.specs.PartTestsPartsByNumber.{concrete_at}
-use Rattle.step_searches.specs.StepPromises.{ConcreteStates, ConcreteAsked, StateAnswers}
+use Rattle.part_setup.specs.ReadingsReadings.{ReadingOf}
+use Rattle.step_searches.specs.StepPromises.{StepSearches, OpeningSearches, ConcreteStates, ConcreteAsked, StateAnswers}
+
+-- ---- the parts that have them
+
+module _ {table rows firsts groups plan cells : List ℕ} {p : Part} {d : Dossier} (R : ReadingOf table rows firsts groups d) where
+  pub states-of-steps : {op : Operation} → StepSearches table plan cells p d op → ConcreteStates table rows firsts cells p d
+  states-of-steps x = record {
+    tests = R.tests;
+    celled = x.celled.states.concretes;
+    count = ap (λ (z : Part). z.concretes.variables) x.part_is;
+    bindings = ap (λ (z : Part). z.concretes.bindings) x.part_is;
+    few = x.few.concrete_bindings_lem;
+  }
+
+  pub states-of-opening : OpeningSearches table plan cells p d → ConcreteStates table rows firsts cells p d
+  states-of-opening x = record {
+    tests = R.tests;
+    celled = x.celled.concretes;
+    count = ap (λ (z : Part). z.concretes.variables) x.part_is;
+    bindings = ap (λ (z : Part). z.concretes.bindings) x.part_is;
+    few = x.few.concrete_bindings_lem;
+  }
 
 -- ---- one binding
 

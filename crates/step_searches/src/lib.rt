@@ -104,6 +104,7 @@ fn put_group(cells: &[u32; CELLS], g: Given, arrays: &mut [[i64; SLOTS]; 2])
 }
 
 // Operation j's correctness part.
+#[inline(always)]
 pub fn prepare(d: &Dossier<'_>, j: usize) -> ReadyPart
     requires { PrepareAsked d.now.table.now d.now.rows.now d.now.firsts.now d.now.groups.now j }
     ensures { Prepared d.now.table.now d.now.rows.now d.now.firsts.now d.now.groups.now j result.plan result.cells result.part }
@@ -112,6 +113,7 @@ pub fn prepare(d: &Dossier<'_>, j: usize) -> ReadyPart
 }
 
 // That of initialisation.
+#[inline(always)]
 pub fn prepare_opening(d: &Dossier<'_>) -> ReadyPart
     requires { OpenAsked d.now.table.now d.now.rows.now d.now.firsts.now d.now.groups.now }
     ensures { Opened d.now.table.now d.now.rows.now d.now.firsts.now d.now.groups.now result.plan result.cells result.part }

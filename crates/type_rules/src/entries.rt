@@ -57,6 +57,13 @@ pub const NUMBER: Kind = Kind { code: 1 };
 pub const USED: Kind = Kind { code: 2 };
 
 impl Kind {
+    // The kind of a number, whichever it is: what a table has of a name may be any.
+    pub fn of_number(code: u16) -> Kind
+        ensures { result ≡ code }
+    {
+        Kind { code }
+    }
+
     // Form 4: the derived comparison under the name that the definitions have; `k == entries::FREE` at the calls would say by numbers in each contract what `is_free` says there.
     pub fn is_free(self) -> bool
         ensures { result ≡ is_free self }

@@ -59,7 +59,6 @@ impl Explanation<'_, '_> {
     }
 
     // The explanation of a dossier that is read.
-    #[inline(always)]
     fn explain(&mut self, labels: &[u16; LABELS]) -> Sheet {
         self.say_all();
         let mut sheet = Sheet::new();
@@ -83,7 +82,6 @@ impl Explanation<'_, '_> {
 // The explanation of a refused text: it speaks of no bindings.
 // Form 2: four lines around the items of the page are those of `Explanation::explain`; one function for them would take the page, the names and the values of an item, as a closure
 // with its requirement (`F.pre`), and be longer than what it spares.
-#[inline(always)]
 fn explain_refusal(text: &[u8], labels: &[u16; LABELS], f: Fault) -> Sheet {
     let mut page = Page::new();
     say_refusal(text, f, &mut page);
@@ -100,7 +98,6 @@ fn explain_refusal(text: &[u8], labels: &[u16; LABELS], f: Fault) -> Sheet {
 }
 
 // The explanation of a text on a sheet.
-#[inline(always)]
 pub fn explain(text: &[u8]) -> Sheet
     ensures { length result.text ≤ 65536 }
 {

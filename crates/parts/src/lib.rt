@@ -6,12 +6,12 @@
 ghost use Rattle.std.specs.Prelude.{◌^◌, ◌<◌, ◌≤◌};
 ghost use Rattle.parts.specs.SearchPromises.{PartAsked, PartAnswers, LookAsked, LookAnswers, SearchAsked, SearchAnswers, SearchStops};
 
-use crate::ready::{PartArrays, set_part};
+use crate::ready::set_part;
 use held_checks::{OBLIGATIONS, OPENING};
 use nest::sweep;
 use part_setup::{first_values, places};
 use plans::{PLAN, PartSearch};
-pub use ready::{ReadyPart, ready_correctness, ready_opening};
+pub use ready::{PartArrays, ready_correctness, ready_opening};
 use search_groups::Dossier;
 use slot_carriers::CELLS;
 

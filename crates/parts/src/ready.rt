@@ -1,6 +1,6 @@
 // Parts of a check made ready for their searches: what is made of a dossier for them.
 // Form 5: `LookAsked` is of the dossier and of the part's number k: a struct of both is a `Model` of some ten lines, and `set_part` would still show k for each obligation.
-// That the cells are blank is asked of the four functions that make a part ready: it holds before the call and not behind it, so that it is no invariant of `PartArrays`.
+// That the cells are blank is asked of the four functions that make a part ready: it holds before the call and not behind it, so that it is no invariant of `PartArrays`; `blank` makes them so.
 ghost use Rattle.std.specs.Prelude.{◌≡◌, ◌+◌, ◌*◌};
 ghost use Rattle.part_setup.specs.SetupPromises.{Blank};
 ghost use Rattle.parts.specs.SearchPromises.{LookAsked, OpeningReady, ApplicabilityReady, CorrectnessReady, PartReady};
@@ -12,46 +12,51 @@ use plans::{PLAN, Part, PartSearch, plan_applicability, plan_correctness, plan_i
 use search_groups::Dossier;
 use slot_carriers::CELLS;
 
-// What the searches of a part go over and what is made of a dossier for them: the cells of the variables, the plans, the part's sizes.
+// The arrays that a part is made ready in: the cells of its variables, and the plans. They are lent: answered with the part's sizes they would be copied, and `dossier` takes 1.03 to 1.27 of the
+// time, `explain` of a small dossier 1.2 to 1.3 times the instructions.
 #[derive(Drop)]
-pub struct ReadyPart {
+pub struct PartArrays {
     pub cells: [u32; CELLS],
     pub plan: [u16; PLAN],
-    pub part: Part,
 }
 
-impl ReadyPart {
-    // With the dossier's table, what the searches are lent.
-    pub fn search<'a>(&'a self, table: &'a [u16; NUMBERS]) -> PartSearch<'a>
+impl PartArrays {
+    // Before a part is made ready in them.
+    #[inline(always)]
+    pub fn blank() -> PartArrays
+        ensures { Blank result.cells }
+    {
+        PartArrays {
+            cells: [0; CELLS],
+            plan: [0; PLAN],
+        }
+    }
+
+    // With the dossier's table and the part's sizes, what the searches are lent.
+    pub fn search<'a>(&'a self, table: &'a [u16; NUMBERS], part: Part) -> PartSearch<'a>
         ensures table { result.table.now ≡ table.now }
         ensures plan { result.plan.now ≡ self.now.plan }
         ensures cells { result.cells.now ≡ self.now.cells }
-        ensures part { result.part ≡ self.now.part }
+        ensures part { result.part ≡ part }
     {
         PartSearch {
             table,
             plan: &self.plan,
             cells: &self.cells,
-            part: self.part,
+            part,
         }
     }
 }
 
-// The arrays that a part is made ready in. They are lent: handed back in a `ReadyPart` to each search of a check they are copied, and `dossier` takes 1.03 to 1.27 of the time.
-#[derive(Drop)]
-pub(crate) struct PartArrays {
-    pub cells: [u32; CELLS],
-    pub plan: [u16; PLAN],
-}
-
-// Initialisation, into arrays that are lent.
-fn set_opening(d: &Dossier<'_>, a: &mut PartArrays) -> Part
+// Initialisation.
+pub fn ready_opening(d: &Dossier<'_>, a: &mut PartArrays) -> Part
     requires look_asked { LookAsked d.now.table.now d.now.rows.now d.now.firsts.now d.now.groups.now 0 }
     requires blank { Blank a.old.cells }
     ensures { OpeningReady d.now.table.now d.now.rows.now d.now.firsts.now d.now.groups.now a.new.plan a.new.cells result }
 {
+    let part = opening(d, &mut a.cells);
     plan_initialisation(d, &mut a.plan);
-    opening(d, &mut a.cells)
+    part
 }
 
 // Applicability of operation j.
@@ -72,7 +77,7 @@ fn set_applicability(d: &Dossier<'_>, j: usize, a: &mut PartArrays) -> Part
 }
 
 // Correctness of operation j.
-fn set_correctness(d: &Dossier<'_>, j: usize, a: &mut PartArrays) -> Part
+pub fn ready_correctness(d: &Dossier<'_>, j: usize, a: &mut PartArrays) -> Part
     requires look_asked { LookAsked d.now.table.now d.now.rows.now d.now.firsts.now d.now.groups.now (2 + 2 * j) }
     requires blank { Blank a.old.cells }
     ensures { CorrectnessReady d.now.table.now d.now.rows.now d.now.firsts.now d.now.groups.now j a.new.plan a.new.cells result }
@@ -90,45 +95,8 @@ pub(crate) fn set_part(d: &Dossier<'_>, k: usize, a: &mut PartArrays) -> Part
     ensures { PartReady d.now.table.now d.now.rows.now d.now.firsts.now d.now.groups.now k a.new.plan a.new.cells result }
 {
     match obligation_of(k) {
-        Obligation::Initialisation => set_opening(d, a),
+        Obligation::Initialisation => ready_opening(d, a),
         Obligation::Applicability(j) => set_applicability(d, j, a),
-        Obligation::Correctness(j) => set_correctness(d, j, a),
-    }
-}
-
-// Initialisation, in arrays of its own.
-// Form 2: over `set_part` it and `ready_correctness` would be one function, but that promises the nest of a part (`PartReady`), not the plan, the cells and the sizes that each of these promises.
-#[inline(always)]
-pub fn ready_opening(d: &Dossier<'_>) -> ReadyPart
-    requires { LookAsked d.now.table.now d.now.rows.now d.now.firsts.now d.now.groups.now 0 }
-    ensures { OpeningReady d.now.table.now d.now.rows.now d.now.firsts.now d.now.groups.now result.plan result.cells result.part }
-{
-    let mut a = PartArrays {
-        cells: [0; CELLS],
-        plan: [0; PLAN],
-    };
-    let part = set_opening(d, &mut a);
-    ReadyPart {
-        cells: a.cells,
-        plan: a.plan,
-        part,
-    }
-}
-
-// Correctness of operation j.
-#[inline(always)]
-pub fn ready_correctness(d: &Dossier<'_>, j: usize) -> ReadyPart
-    requires { LookAsked d.now.table.now d.now.rows.now d.now.firsts.now d.now.groups.now (2 + 2 * j) }
-    ensures { CorrectnessReady d.now.table.now d.now.rows.now d.now.firsts.now d.now.groups.now j result.plan result.cells result.part }
-{
-    let mut a = PartArrays {
-        cells: [0; CELLS],
-        plan: [0; PLAN],
-    };
-    let part = set_correctness(d, j, &mut a);
-    ReadyPart {
-        cells: a.cells,
-        plan: a.plan,
-        part,
+        Obligation::Correctness(j) => ready_correctness(d, j, a),
     }
 }

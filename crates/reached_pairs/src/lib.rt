@@ -21,8 +21,8 @@ use crate::marks::{INITIAL, Mark, NONE, PAIRS, count_layer, is_of, mark_from, pu
 use plans::PartSearch;
 use search_groups::Dossier;
 use step_searches::{
-    ReadDossier, StepSearch, Stepped, next_concrete_step, next_initial_match, next_initial_state,
-    next_matching_state, prepare, prepare_opening,
+    PartArrays, ReadDossier, StepSearch, Stepped, next_concrete_step, next_initial_match,
+    next_initial_state, next_matching_state, prepare, prepare_opening,
 };
 
 pub mod marks;
@@ -153,9 +153,10 @@ fn spread(d: &Dossier<'_>, j: usize, n: u64, marks: &mut [Mark; PAIRS])
     requires pairs_fit { PairsFit d.now.table.now d.now.rows.now d.now.firsts.now d.now.groups.now }
     ensures { OperationSpread d.now.table.now d.now.rows.now d.now.firsts.now d.now.groups.now j n marks.old marks.new }
 {
-    let ready = prepare(d, j);
+    let mut made = PartArrays::blank();
+    let ready = prepare(d, j, &mut made);
     let s = StepSearch {
-        search: ready.search(d.table),
+        search: made.search(d.table, ready),
     };
     let mut memo = [0u64; memo::NUMBERS];
     spread_pairs(&s, j, n, &mut memo, marks)
@@ -231,12 +232,13 @@ fn begin(d: &Dossier<'_>, marks: &mut [Mark; PAIRS]) -> Option<usize>
     requires open_asked { OpenAsked d.now.table.now d.now.rows.now d.now.firsts.now d.now.groups.now }
     ensures { Begun d.now.table.now d.now.rows.now d.now.firsts.now d.now.groups.now marks.old marks.new result }
 {
-    let ready = prepare_opening(d);
-    let pairs = ready.part.meeting.bindings * ready.part.concretes.bindings;
+    let mut made = PartArrays::blank();
+    let ready = prepare_opening(d, &mut made);
+    let pairs = ready.meeting.bindings * ready.concretes.bindings;
     if PAIRS < pairs {
         return None;
     }
-    let s = ready.search(d.table);
+    let s = made.search(d.table, ready);
     let mut memo = [0u64; memo::NUMBERS];
     begin_all(&s, &mut memo, marks);
     Some(pairs)

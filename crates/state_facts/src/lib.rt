@@ -18,6 +18,7 @@ ghost use Rattle.state_facts.specs.Shown.{PartOf, Shown};
 use pages::{Bindings, Counts};
 use part_places::{OBLIGATIONS, part_cells};
 use placing::{put_parameters, put_states};
+use plans::{Conclusion, GroupSize, Part};
 use search_groups::Dossier;
 use slot_carriers::{CELLS, SLOTS};
 use std::marker::Model;
@@ -30,20 +31,37 @@ pub struct Pair {
     pub c: usize,
 }
 
-// The search among the states of the k-th part.
+// The sizes of a part that has no variables: what stands there before the cells are made.
+const NO_GROUP: GroupSize = GroupSize {
+    variables: 0,
+    bindings: 0,
+};
+
+const NO_PART: Part = Part {
+    abstracts: NO_GROUP,
+    concretes: NO_GROUP,
+    inputs: NO_GROUP,
+    outputs: NO_GROUP,
+    primes: NO_GROUP,
+    readying: NO_GROUP,
+    meeting: NO_GROUP,
+    conclusion: Conclusion::OfState,
+};
+
+// The search among the states of the k-th part. It is made where it stands, and inlined: answered it is copied, and `explain` of a small dossier takes 1.1 to 1.2 times the instructions.
 #[inline(always)]
 fn state_search<'a>(d: &Dossier<'a>, k: usize) -> StateSearch<'a>
     requires { PartAsked d.now.table.now d.now.groups.now k }
     ensures dossier { result.dossier ≡ d.now }
     ensures cells { PartSet d.now.table.now d.now.groups.now k result.cells result.part }
 {
-    let mut cells = [0u32; CELLS];
-    let part = part_cells(d, k, &mut cells);
-    StateSearch {
+    let mut s = StateSearch {
         dossier: *d,
-        cells,
-        part,
-    }
+        cells: [0; CELLS],
+        part: NO_PART,
+    };
+    s.part = part_cells(d, k, &mut s.cells);
+    s
 }
 
 // The part of the check that has the groups of both states.

@@ -6,7 +6,9 @@ ghost use Rattle.step_facts.specs.Machines.{is_abstract};
 ghost use Rattle.step_facts.specs.FactPromises.{MasksAre, more, FirstMore, PlaceFrom, PlaceAmong, PlaceIs};
 
 use crate::bits::{MOST_STATES, Machine, bits, fill_masks};
-use step_searches::{ReadDossier, StepSearch, next_abstract_state, next_related_state, prepare};
+use step_searches::{
+    PartArrays, ReadDossier, StepSearch, next_abstract_state, next_related_state, prepare,
+};
 
 // An abstract state, a concrete one and inputs.
 #[derive(Clone, Copy)]
@@ -95,9 +97,10 @@ fn differing(d: &ReadDossier<'_>, j: usize, machine: Machine) -> Option<Place>
     if d.arrays.operations <= j {
         return None;
     }
-    let ready = prepare(&d.arrays, j);
+    let mut made = PartArrays::blank();
+    let ready = prepare(&d.arrays, j, &mut made);
     let s = StepSearch {
-        search: ready.search(d.arrays.table),
+        search: made.search(d.arrays.table, ready),
     };
     let mut memo = [0u64; memo::NUMBERS];
     let mut masks = [0u64; MOST_STATES];

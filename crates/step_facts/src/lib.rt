@@ -1,7 +1,7 @@
 // Facts about an operation of a dossier, by numbers of bindings, from the searches for single states and steps: for a program that explains counterexamples. A number that is out of range is
 // answered, never refused.
 // `let _ = &s.search;` stands where a function names no field of its search: with it the proof learns the invariant of `StepSearch`.
-// Form 2: four functions make operation j's part ready and search it: the part owns the arrays that the search refers to, so that a function that makes both cannot hand the search out;
+// Form 2: four functions make operation j's part ready and search it: each has the arrays that the search refers to, so that a function that makes both cannot hand the search out;
 // and a function that is handed a closure over the search would ask that it can be called with every search of the operation, in place of three statements.
 // Form 3: in the loops by `while` the next place is what a search answers that writes the memory: in the closure of an iterator nothing is told of what it changes, as seen at
 // `runs::step_from`, and `remembers` says what the memory is behind the loop.
@@ -17,7 +17,9 @@ ghost use Rattle.step_facts.specs.FactPromises.{SpansAre, AbstractStepIs};
 pub use differences::{Place, narrowed, widened};
 pub use runs::{Beginning, BothStep, begin, step};
 pub use state_facts::Pair;
-use step_searches::{ReadDossier, StepSearch, next_abstract_step, prepare, prepare_opening};
+use step_searches::{
+    PartArrays, ReadDossier, StepSearch, next_abstract_step, prepare, prepare_opening,
+};
 pub use totals::{abstract_states, promises, related_pairs};
 
 mod bits;
@@ -38,10 +40,11 @@ pub struct Widths {
 pub fn state_spans(d: &ReadDossier<'_>) -> Widths
     ensures { (j : ℕ) → d.now.operations ≤ j → SpansAre d.now.table.now d.now.rows.now d.now.firsts.now d.now.groups.now d.now.operations j result }
 {
-    let ready = prepare_opening(&d.arrays);
+    let mut made = PartArrays::blank();
+    let ready = prepare_opening(&d.arrays, &mut made);
     Widths {
-        na: ready.part.meeting.bindings,
-        nc: ready.part.concretes.bindings,
+        na: ready.meeting.bindings,
+        nc: ready.concretes.bindings,
         ni: 1,
         nq: 1,
     }
@@ -52,12 +55,13 @@ pub fn spans(d: &ReadDossier<'_>, j: usize) -> Widths
     ensures { SpansAre d.now.table.now d.now.rows.now d.now.firsts.now d.now.groups.now d.now.operations j result }
 {
     if j < d.arrays.operations {
-        let ready = prepare(&d.arrays, j);
+        let mut made = PartArrays::blank();
+        let ready = prepare(&d.arrays, j, &mut made);
         return Widths {
-            na: ready.part.abstracts.bindings,
-            nc: ready.part.concretes.bindings,
-            ni: ready.part.inputs.bindings,
-            nq: ready.part.outputs.bindings,
+            na: ready.abstracts.bindings,
+            nc: ready.concretes.bindings,
+            ni: ready.inputs.bindings,
+            nq: ready.outputs.bindings,
         };
     }
     state_spans(d)
@@ -83,15 +87,16 @@ pub fn abstract_step(
     if d.arrays.operations <= j {
         return Err(StepFault::Beyond);
     }
-    let ready = prepare(&d.arrays, j);
-    if ready.part.abstracts.bindings <= a
-        || ready.part.inputs.bindings <= i
-        || ready.part.readying.bindings < from
+    let mut made = PartArrays::blank();
+    let ready = prepare(&d.arrays, j, &mut made);
+    if ready.abstracts.bindings <= a
+        || ready.inputs.bindings <= i
+        || ready.readying.bindings < from
     {
         return Err(StepFault::Beyond);
     }
     let s = StepSearch {
-        search: ready.search(d.arrays.table),
+        search: made.search(d.arrays.table, ready),
     };
     let mut memo = [0u64; memo::NUMBERS];
     let step = next_abstract_step(&s, a, i, from, &mut memo);

@@ -6,8 +6,8 @@ ghost use Rattle.step_facts.specs.FactPromises.{BeginIs, PairLow, StepFound, Ste
 use crate::bits::{Machine, able};
 use state_facts::Pair;
 use step_searches::{
-    ReadDossier, StepSearch, Stepped, next_concrete_step, next_initial_match, next_initial_state,
-    next_matching_state, prepare, prepare_opening,
+    PartArrays, ReadDossier, StepSearch, Stepped, next_concrete_step, next_initial_match,
+    next_initial_state, next_matching_state, prepare, prepare_opening,
 };
 
 // Where a run begins: in a concrete initial state and an abstract one that is related to it; in a concrete initial state that no abstract one is related to; nowhere.
@@ -32,8 +32,9 @@ pub struct BothStep {
 pub fn begin(d: &ReadDossier<'_>) -> Beginning
     ensures { BeginIs d.now.table.now d.now.rows.now d.now.firsts.now d.now.groups.now d.now.operations result }
 {
-    let ready = prepare_opening(&d.arrays);
-    let s = ready.search(d.arrays.table);
+    let mut made = PartArrays::blank();
+    let ready = prepare_opening(&d.arrays, &mut made);
+    let s = made.search(d.arrays.table, ready);
     let mut memo = [0u64; memo::NUMBERS];
     let Some(c) = next_initial_state(&s, 0, &mut memo) else {
         return Beginning::Nowhere;
@@ -92,12 +93,13 @@ pub fn step(d: &ReadDossier<'_>, j: usize, x: Pair) -> Option<BothStep>
     if d.arrays.operations <= j {
         return None;
     }
-    let ready = prepare(&d.arrays, j);
-    if ready.part.abstracts.bindings <= x.a || ready.part.concretes.bindings <= x.c {
+    let mut made = PartArrays::blank();
+    let ready = prepare(&d.arrays, j, &mut made);
+    if ready.abstracts.bindings <= x.a || ready.concretes.bindings <= x.c {
         return None;
     }
     let s = StepSearch {
-        search: ready.search(d.arrays.table),
+        search: made.search(d.arrays.table, ready),
     };
     let mut memo = [0u64; memo::NUMBERS];
     step_from(&s, x, &mut memo)

@@ -5,7 +5,9 @@ ghost use Rattle.step_facts.specs.FactPromises.{Summed, one, state_test, related
 ghost use Rattle.step_facts.specs.FactPromises.{StatesCounted, PairsCounted, PromisesCounted};
 
 use crate::bits::{Machine, able};
-use step_searches::{ReadDossier, StepSearch, next_abstract_state, next_related_state, prepare};
+use step_searches::{
+    PartArrays, ReadDossier, StepSearch, next_abstract_state, next_related_state, prepare,
+};
 
 // The operation that is asked for what all of them have in common.
 const FIRST: usize = 0;
@@ -99,9 +101,10 @@ fn total(d: &ReadDossier<'_>, j: usize, counted: Counted) -> usize
     if d.arrays.operations <= j {
         return 0;
     }
-    let ready = prepare(&d.arrays, j);
+    let mut made = PartArrays::blank();
+    let ready = prepare(&d.arrays, j, &mut made);
     let s = StepSearch {
-        search: ready.search(d.arrays.table),
+        search: made.search(d.arrays.table, ready),
     };
     let mut memo = [0u64; memo::NUMBERS];
     count_all(&s, counted, &mut memo)

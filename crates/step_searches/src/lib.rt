@@ -10,13 +10,15 @@
 
 ghost use Rattle.std.specs.Prelude.{◌*◌, ◌<◌, ◌≤◌, IfSome, unwrap_or};
 ghost use Rattle.memo.specs.MemoPromises.{Memo};
+ghost use Rattle.part_setup.specs.SetupPromises.{Blank};
 ghost use Rattle.step_searches.specs.StepPromises.{PutAsked, PutAnswers, PrepareAsked, Prepared, OpenAsked, Opened, OpeningAsked, Below};
 ghost use Rattle.step_searches.specs.StepPromises.{GivenAsked, GivenAnswers};
 ghost use Rattle.step_searches.specs.StepPromises.{AbstractStateFound, RelatedStateFound, AbstractStepFound, ConcreteStepFound, MatchFound};
 ghost use Rattle.step_searches.specs.StepPromises.{InitialStateFound, InitialMatchFound, ConcreteAsked, StateAnswers, ConcreteStateFound};
 
 use part_setup::first_values;
-use parts::{ReadyPart, ready_correctness, ready_opening};
+pub use parts::PartArrays;
+use parts::{ready_correctness, ready_opening};
 use plans::{GroupSize, Part, PartSearch};
 use points::plan::{MET, READY, RELATED, STATES, STEPS};
 use points::slots;
@@ -104,21 +106,21 @@ fn put_group(cells: &[u32; CELLS], g: Given, arrays: &mut [[i64; SLOTS]; 2])
 }
 
 // Operation j's correctness part.
-#[inline(always)]
-pub fn prepare(d: &Dossier<'_>, j: usize) -> ReadyPart
-    requires { PrepareAsked d.now.table.now d.now.rows.now d.now.firsts.now d.now.groups.now j }
-    ensures { Prepared d.now.table.now d.now.rows.now d.now.firsts.now d.now.groups.now j result.plan result.cells result.part }
+pub fn prepare(d: &Dossier<'_>, j: usize, a: &mut PartArrays) -> Part
+    requires prepare_asked { PrepareAsked d.now.table.now d.now.rows.now d.now.firsts.now d.now.groups.now j }
+    requires blank { Blank a.old.cells }
+    ensures { Prepared d.now.table.now d.now.rows.now d.now.firsts.now d.now.groups.now j a.new.plan a.new.cells result }
 {
-    ready_correctness(d, j)
+    ready_correctness(d, j, a)
 }
 
 // That of initialisation.
-#[inline(always)]
-pub fn prepare_opening(d: &Dossier<'_>) -> ReadyPart
-    requires { OpenAsked d.now.table.now d.now.rows.now d.now.firsts.now d.now.groups.now }
-    ensures { Opened d.now.table.now d.now.rows.now d.now.firsts.now d.now.groups.now result.plan result.cells result.part }
+pub fn prepare_opening(d: &Dossier<'_>, a: &mut PartArrays) -> Part
+    requires open_asked { OpenAsked d.now.table.now d.now.rows.now d.now.firsts.now d.now.groups.now }
+    requires blank { Blank a.old.cells }
+    ensures { Opened d.now.table.now d.now.rows.now d.now.firsts.now d.now.groups.now a.new.plan a.new.cells result }
 {
-    ready_opening(d)
+    ready_opening(d, a)
 }
 
 // The next number of a span that the search finds, with some groups at the bindings that are given and all other variables at their first values.

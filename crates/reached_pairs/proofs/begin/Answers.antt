@@ -8,7 +8,7 @@ use Rattle.reached_pairs.proofs.BegunPairs.{begun-none, begun_all, open-small}
 use Rattle.reached_pairs.proofs.begin.Goals as goal
 
 pub prepare_opening-ready-requires : goal.prepare_opening-ready-requires
-prepare_opening-ready-requires c = c.requires.open_asked
+prepare_opening-ready-requires c = record { open_asked = c.requires.open_asked; blank = c.blank-made.ensures }
 
 pub overflow_mul-pairs : goal.overflow_mul-pairs
 overflow_mul-pairs c = omega (arith, open-small (c.prepare_opening-ready.ensures.searches c.requires.open_asked.dossier c.requires.open_asked.reading))

@@ -9,7 +9,7 @@ use Rattle.reached_pairs.proofs.SpreadLayers.{operation-spread, pairs-asked, ope
 use Rattle.reached_pairs.proofs.spread.Goals as goal
 
 pub prepare-ready-requires : goal.prepare-ready-requires
-prepare-ready-requires c = c.requires.prepare_asked
+prepare-ready-requires c = record { prepare_asked = c.requires.prepare_asked; blank = c.blank-made.ensures }
 
 pub invariant_of-s : goal.invariant_of-s
 invariant_of-s c = lent StepsAsked c.search.ensures.table c.search.ensures.plan c.search.ensures.cells c.search.ensures.part

@@ -2,5 +2,5 @@
 use Rattle.part_places.proofs.PartsSetupLaws.{blank}
 use Rattle.state_facts.proofs.state_search.Goals as goal
 
-pub part_cells-part-requires : goal.part_cells-part-requires
-part_cells-part-requires c = record { part_asked = c.requires; blank = blank 9216 }
+pub part_cells-s-requires : goal.part_cells-s-requires
+part_cells-s-requires c = record { part_asked = c.requires; blank = blank 9216 }

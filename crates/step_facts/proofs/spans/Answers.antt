@@ -5,7 +5,7 @@ use Rattle.step_facts.proofs.AskedFacts.{operation-spans}
 use Rattle.step_facts.proofs.spans.Goals as goal
 
 pub prepare-ready-requires : goal.prepare-ready-requires
-prepare-ready-requires c = prepare-asked c.d.invariant c.if-j-d.true
+prepare-ready-requires c = record { prepare_asked = prepare-asked c.d.invariant c.if-j-d.true; blank = c.blank-made.ensures }
 
 pub returns-then-j-d : goal.returns-then-j-d
 returns-then-j-d c = rw (← c.d.view_is) (operation-spans c.d.invariant c.prepare-ready.ensures c.if-j-d.true)

@@ -3,7 +3,7 @@ use Rattle.step_facts.proofs.AskedFacts.{open-asked, opening-spans}
 use Rattle.step_facts.proofs.state_spans.Goals as goal
 
 pub prepare_opening-ready-requires : goal.prepare_opening-ready-requires
-prepare_opening-ready-requires c = open-asked c.d.invariant
+prepare_opening-ready-requires c = record { open_asked = open-asked c.d.invariant; blank = c.blank-made.ensures }
 
 pub returns : goal.returns
 returns c = rw (← c.d.view_is) (λ j h. opening-spans c.d.invariant c.prepare_opening-ready.ensures h)

@@ -3,7 +3,7 @@ use Rattle.step_searches.proofs.PreparedSearches.{opening-look, opened}
 use Rattle.step_searches.proofs.prepare_opening.Goals as goal
 
 pub ready_opening-requires : goal.ready_opening-requires
-ready_opening-requires c = opening-look c.requires
+ready_opening-requires c = record { look_asked = opening-look c.requires.open_asked; blank = c.requires.blank }
 
 pub returns : goal.returns
 returns c = opened c.ready_opening.ensures

@@ -9,7 +9,7 @@ use Rattle.step_searches.specs.StepPromises.{OpeningAsked, InitialStateFound, In
 use Rattle.step_facts.proofs.runs.begin.Goals as goal
 
 pub prepare_opening-ready-requires : goal.prepare_opening-ready-requires
-prepare_opening-ready-requires c = open-asked c.d.invariant
+prepare_opening-ready-requires c = record { open_asked = open-asked c.d.invariant; blank = c.blank-made.ensures }
 
 pub next_initial_state-requires : goal.next_initial_state-requires
 next_initial_state-requires c = record {

@@ -14,7 +14,7 @@ pub returns-then-d-j : goal.returns-then-d-j
 returns-then-d-j c = record { is = tt }
 
 pub prepare-ready-requires : goal.prepare-ready-requires
-prepare-ready-requires c = prepare-asked c.d.invariant (omega (arith, c.if-d-j.false))
+prepare-ready-requires c = record { prepare_asked = prepare-asked c.d.invariant (omega (arith, c.if-d-j.false)); blank = c.blank-made.ensures }
 
 pub invariant_of-s : goal.invariant_of-s
 invariant_of-s c = lent StepsAsked c.search.ensures.table c.search.ensures.plan c.search.ensures.cells c.search.ensures.part (steps-asked c.d.invariant (omega (arith, c.if-d-j.false)) c.prepare-ready.ensures)

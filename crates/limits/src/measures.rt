@@ -73,7 +73,7 @@ fn context(nodes: &[u16], r: &Reach<'_>, end: usize, bounds: &mut [u16]) -> Opti
     mark_all::<true>(r, bounds);
     let p = pred(code, bounds);
     mark_all::<false>(r, bounds);
-    p.fault
+    p.fault.get()
 }
 
 // The predicates of the two states.

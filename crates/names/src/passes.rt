@@ -41,7 +41,7 @@ fn predicate_end(code: &[u16]) -> usize
 fn condition(code: &[u16], names: &mut [Kind], sizes: &[u16]) -> Result<(), Fault>
     ensures { ConditionSeen code.now names.old names.new sizes.now (refused_key result) }
 {
-    all_well(pred(code, names, sizes).fault)
+    all_well(pred(code, names, sizes).fault.get())
 }
 
 // A state, from its heading on: its variables are in use behind it.

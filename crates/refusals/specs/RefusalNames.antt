@@ -1,4 +1,5 @@
 -- The refusals of the code by their names, and a fault with its place.
+use Rattle.std.specs.Prelude.{[], ◌∷◌, ℕ, get_or}
 use Rattle.refusals.specs.Refusals as definition
 use Rattle.refusals.specs.Refusals.{fault}
 use Rattle.refusals.specs.declared.Refusal.{Refusal}
@@ -27,6 +28,14 @@ refusal_is NothingHeld = definition.nothing_held
 refusal_is SomethingHeld = definition.something_held
 refusal_is CheckFinished = definition.check_finished
 refusal_is NoCounterexample = definition.no_counterexample
+
+-- the refusal that has the number n; LongText where the number has none
+unfoldable pub refusal_numbered : ℕ → Refusal
+refusal_numbered n =
+    get_or
+    (LongText ∷ LongText ∷ UnlistedSymbol ∷ ManySymbols ∷ NoDossier ∷ Deep ∷ ManyDeclared ∷ HeadingDiffers ∷ NameInUse ∷ NameUnknown ∷ TypesMisfit ∷ WideType
+    ∷ ManyBindings ∷ LargeSize ∷ ZeroDivisor ∷ AdvanceRange ∷ ShortBytes ∷ LongText ∷ LongText ∷ LongText ∷ LongText ∷ NothingHeld ∷ SomethingHeld ∷ CheckFinished ∷ NoCounterexample ∷ [])
+    n LongText
 
 abbrev pub fault_is : Fault → definition.Fault
 fault_is f = fault f.place (refusal_is f.refusal)

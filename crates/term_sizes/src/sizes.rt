@@ -12,7 +12,8 @@ use form::{node, operator_codes, shapes};
 use lexical::bounds::{COUNT_SIZE, LARGEST_NUMBER, LARGEST_SIZE};
 use refusals::Refusal;
 use type_rules::Node;
-use type_rules::kinds::{judge, last_node, lesser_of, look, put};
+use type_rules::faults::LeastFault;
+use type_rules::kinds::{judge, last_node, look, put};
 
 // Prefixes and operators by the code of their symbol. What is not a number has the size 0.
 fn prefix_bound(o: u16, a: u32) -> u32
@@ -62,7 +63,7 @@ fn bare(at: usize) -> Sized
 {
     Sized {
         bound: 0,
-        fault: None,
+        fault: LeastFault::none(),
         start: at,
     }
 }
@@ -73,7 +74,7 @@ fn both(t: Sized, u: Sized) -> Sized
 {
     Sized {
         bound: 0,
-        fault: lesser_of(t.fault, u.fault),
+        fault: t.fault.lesser(u.fault),
         ..t
     }
 }
@@ -134,7 +135,7 @@ fn number(front: &[u16], n: Node, bounds: &[u16]) -> Sized
 {
     Sized {
         bound: u32::from(n.a),
-        fault: None,
+        fault: LeastFault::none(),
         start: front.len(),
     }
 }
@@ -146,7 +147,7 @@ fn named(front: &[u16], n: Node, bounds: &[u16]) -> Sized
     let e = look(bounds, usize::from(n.a));
     Sized {
         bound: u32::from(e),
-        fault: None,
+        fault: LeastFault::none(),
         start: front.len(),
     }
 }
@@ -183,7 +184,7 @@ fn operated(front: &[u16], n: Node, bounds: &mut [u16]) -> Sized
     let u = term(front, bounds);
     let t = term(&front[..u.start], bounds);
     let m = operator_bound(n.a, t.bound, u.bound);
-    let parts = lesser_of(t.fault, u.fault);
+    let parts = t.fault.lesser(u.fault);
     let fault = judge(m <= LARGEST_SIZE, n.place, Refusal::LargeSize, parts);
     Sized {
         bound: m.min(LARGEST_SIZE) as u32,

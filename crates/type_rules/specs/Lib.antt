@@ -1,2 +1,3 @@
 pub mod TypesByNumber
 pub mod Passes
+pub mod FaultKeys

@@ -6,6 +6,7 @@ ghost use Rattle.type_rules.specs.Passes.{refused_key};
 ghost use Rattle.type_rules.specs.TypesByNumber.{entry, member_fits, related_fits, shared, key, fault_key, unless_key, lesser, is_given, judged_key, inside_key, is_free, range_fits, size_in, product_fits, over_key, brace_key, NodeAt};
 
 use crate::entries::Kind;
+use crate::faults::LeastFault;
 use crate::{Node, entries};
 use form::node;
 use lexical::bounds;
@@ -61,7 +62,7 @@ pub fn shared_kind(k: Kind, l: Kind) -> Kind
 }
 
 // The fault at a place, unless all is well.
-// Form 7: `ok` is what a rule says; without this function each of its 18 calls would say `(!..).then_some(Fault { .. })` itself.
+// Form 7: `ok` is what a rule says; without this function each of its 11 calls would say `(!..).then_some(Fault { .. })` itself.
 pub fn unless(ok: bool, place: usize, refusal: Refusal) -> Option<Fault>
     ensures { fault_key result ≡ unless_key ok (key place (number_of (refusal_is refusal))) }
 {
@@ -87,18 +88,18 @@ pub fn all_well(fault: Option<Fault>) -> Result<(), Fault>
 
 // A whole at the place i with the fault `parts` in its parts.
 // Form 7: as a closure, `fits` would be written `|| ..` at each of the seven calls, and the promise here would want a type parameter, and a clause that it may be run.
-pub fn judge(fits: bool, i: u16, refusal: Refusal, parts: Option<Fault>) -> Option<Fault>
+pub fn judge(fits: bool, i: u16, refusal: Refusal, parts: LeastFault) -> LeastFault
     ensures { fault_key result ≡ judged_key fits (key i (number_of (refusal_is refusal))) (fault_key parts) }
 {
-    parts.or(unless(fits, usize::from(i), refusal))
+    parts.or(LeastFault::unless(fits, u32::from(i), refusal))
 }
 
 // The fault of a bound name, where it stands behind the symbol i: `old` is what it was, `over` the fault of what it is bound over, `body` that of its reach.
-pub fn bound_fault(i: u16, old: Kind, over: Option<Fault>, body: Option<Fault>) -> Option<Fault>
+pub fn bound_fault(i: u16, old: Kind, over: LeastFault, body: LeastFault) -> LeastFault
     ensures { fault_key result ≡ inside_key (lesser (unless_key (is_free old) (key (i + 1) 8)) (fault_key over)) (fault_key body) }
 {
-    let here = unless(old.is_free(), usize::from(i) + 1, Refusal::NameInUse);
-    lesser_of(here, over).or(body)
+    let here = LeastFault::unless(old.is_free(), u32::from(i) + 1, Refusal::NameInUse);
+    here.lesser(over).or(body)
 }
 
 pub fn range_fits(a: u16, b: u16) -> bool

@@ -2,16 +2,17 @@
 #![tactic(auto)]
 
 use crate::entries::Kind;
-use refusals::Fault;
+use crate::faults::LeastFault;
 
 pub mod entries;
+pub mod faults;
 pub mod kinds;
 
 // The type of a tree, its least fault, with the place by symbols, and where its nodes begin.
 #[derive(Clone, Copy)]
 pub struct Seen {
     pub kind: Kind,
-    pub fault: Option<Fault>,
+    pub fault: LeastFault,
     pub start: usize,
 }
 

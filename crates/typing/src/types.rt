@@ -10,11 +10,12 @@ ghost use Rattle.typing.specs.SidesPromise.{SidesSeen};
 ghost use Rattle.type_rules.specs.declared.Node.{Node};
 
 use form::{node, operator_codes, shapes};
-use refusals::{Fault, Refusal};
+use refusals::Refusal;
 use type_rules::entries::Kind;
+use type_rules::faults::LeastFault;
 use type_rules::kinds::{
-    bound_fault, brace_fault, entry, judge, last_node, lesser_of, member_fits, pairs_fault, put,
-    range_fits, related_fits, shared_kind, unless,
+    bound_fault, brace_fault, entry, judge, last_node, member_fits, pairs_fault, put, range_fits,
+    related_fits, shared_kind,
 };
 use type_rules::{Node, Seen, entries};
 
@@ -68,7 +69,7 @@ fn nothing() -> Seen
 {
     Seen {
         kind: entries::NONE,
-        fault: None,
+        fault: LeastFault::none(),
         start: 0,
     }
 }
@@ -83,18 +84,14 @@ fn domain(code: &[u16], names: &[Kind]) -> Seen
     let n = last_node(code);
     if code[at + node::SHAPE] == shapes::SET {
         let e = entry(names, usize::from(n.a));
-        let fault = unless(e.is_given(), usize::from(n.place), Refusal::NameUnknown);
+        let fault = LeastFault::unless(e.is_given(), u32::from(n.place), Refusal::NameUnknown);
         return Seen {
             kind: e.element_of(),
             fault,
             start: at,
         };
     }
-    let fault = unless(
-        range_fits(n.a, n.b),
-        usize::from(n.place),
-        Refusal::WideType,
-    );
+    let fault = LeastFault::unless(range_fits(n.a, n.b), u32::from(n.place), Refusal::WideType);
     Seen {
         kind: entries::NUMBER,
         fault,
@@ -115,7 +112,7 @@ fn term(code: &[u16], names: &mut [Kind], sizes: &[u16]) -> Seen
     match code[at + node::SHAPE] {
         shapes::NUMBER => Seen {
             kind: entries::NUMBER,
-            fault: None,
+            fault: LeastFault::none(),
             start: at,
         },
         shapes::NAME => named(front, n, names, sizes),
@@ -136,7 +133,7 @@ fn named(front: &[u16], n: Node, names: &[Kind], sizes: &[u16]) -> Seen
     ensures { TermSeen (ended front.now 2 n) (length front.now + 4) names.now names.now sizes.now result }
 {
     let e = entry(names, usize::from(n.a));
-    let fault = unless(e.in_reach(), usize::from(n.place), Refusal::NameUnknown);
+    let fault = LeastFault::unless(e.in_reach(), u32::from(n.place), Refusal::NameUnknown);
     Seen {
         kind: e,
         fault,
@@ -149,7 +146,7 @@ fn empty_set(front: &[u16], n: Node, names: &[Kind], sizes: &[u16]) -> Seen
     ensures { TermSeen (ended front.now 9 n) (length front.now + 4) names.now names.now sizes.now result }
 {
     let e = entry(names, usize::from(n.a));
-    let fault = unless(e.is_given(), usize::from(n.place) + 1, Refusal::NameUnknown);
+    let fault = LeastFault::unless(e.is_given(), u32::from(n.place) + 1, Refusal::NameUnknown);
     Seen {
         kind: e.element_of().set_of(),
         fault,
@@ -166,7 +163,7 @@ fn empty_pairs(front: &[u16], n: Node, names: &[Kind], sizes: &[u16]) -> Seen
     let i = usize::from(n.place);
     Seen {
         kind: g.element_of().pair_with(h.element_of()),
-        fault: pairs_fault(sizes, g, h, i + 1, i + 2, i),
+        fault: LeastFault::of(pairs_fault(sizes, g, h, i + 1, i + 2, i)),
         start: front.len(),
     }
 }
@@ -176,7 +173,7 @@ fn empty_pairs(front: &[u16], n: Node, names: &[Kind], sizes: &[u16]) -> Seen
 struct Sides {
     first: Kind,
     second: Kind,
-    fault: Option<Fault>,
+    fault: LeastFault,
     start: usize,
 }
 
@@ -202,7 +199,7 @@ fn two_terms(code: &[u16], names: &mut [Kind], sizes: &[u16]) -> Sides
 {
     let u = term(code, names, sizes);
     let t = term(&code[..u.start], names, sizes);
-    let fault = lesser_of(t.fault, u.fault);
+    let fault = t.fault.lesser(u.fault);
     Sides {
         first: t.kind,
         second: u.kind,
@@ -236,16 +233,16 @@ fn divided(front: &[u16], n: Node, names: &mut [Kind], sizes: &[u16]) -> Seen
     ensures { TermSeen (ended front.now 4 n) (length front.now + 4) names.old names.new sizes.now result }
 {
     let t = term(front, names, sizes);
-    let zero = unless(
+    let zero = LeastFault::unless(
         0 < n.a,
-        usize::from(n.place) + 1 + usize::from(n.b % shapes::REMAINDER),
+        u32::from(n.place) + 1 + u32::from(n.b % shapes::REMAINDER),
         Refusal::ZeroDivisor,
     );
     let fault = judge(
         t.kind.is_number(),
         n.place,
         Refusal::TypesMisfit,
-        lesser_of(t.fault, zero),
+        t.fault.lesser(zero),
     );
     Seen {
         kind: entries::NUMBER,
@@ -315,7 +312,9 @@ fn paired(front: &[u16], n: Node, names: &mut [Kind], sizes: &[u16]) -> Seen
     ensures { TermSeen (ended front.now 8 n) (length front.now + 4) names.old names.new sizes.now result }
 {
     let t = pairs(front, names, sizes);
-    let fault = t.fault.or(brace_fault(sizes, t.kind, n.place));
+    let fault = t
+        .fault
+        .or(LeastFault::of(brace_fault(sizes, t.kind, n.place)));
     Seen {
         kind: t.kind,
         fault,
@@ -336,7 +335,7 @@ fn items(code: &[u16], names: &mut [Kind], sizes: &[u16]) -> Seen
     }
     let l = items(&code[..at], names, sizes);
     let t = term(&code[..l.start], names, sizes);
-    let fault = lesser_of(t.fault, l.fault);
+    let fault = t.fault.lesser(l.fault);
     Seen {
         kind: shared_kind(t.kind, l.kind),
         fault,
@@ -359,7 +358,7 @@ fn pairs(code: &[u16], names: &mut [Kind], sizes: &[u16]) -> Seen
     }
     let l = pairs(&code[..at], names, sizes);
     let t = pair(&code[..l.start], names, sizes);
-    let fault = lesser_of(t.fault, l.fault);
+    let fault = t.fault.lesser(l.fault);
     Seen {
         kind: shared_kind(t.kind, l.kind),
         fault,
@@ -395,7 +394,7 @@ pub fn pred(code: &[u16], names: &mut [Kind], sizes: &[u16]) -> Seen
     match code[at + node::SHAPE] {
         shapes::TRUTH => Seen {
             kind: entries::NONE,
-            fault: None,
+            fault: LeastFault::none(),
             start: at,
         },
         shapes::NEGATION => pred(front, names, sizes),
@@ -416,7 +415,7 @@ fn connected(front: &[u16], names: &mut [Kind], sizes: &[u16]) -> Seen
 {
     let q = pred(front, names, sizes);
     let p = pred(&front[..q.start], names, sizes);
-    let fault = lesser_of(p.fault, q.fault);
+    let fault = p.fault.lesser(q.fault);
     Seen {
         kind: entries::NONE,
         fault,
@@ -451,7 +450,7 @@ fn within(front: &[u16], n: Node, names: &mut [Kind], sizes: &[u16]) -> Seen
 {
     let d = domain(front, names);
     let t = term(&front[..d.start], names, sizes);
-    let parts = lesser_of(t.fault, d.fault);
+    let parts = t.fault.lesser(d.fault);
     let fault = judge(t.kind.is_number(), n.place, Refusal::TypesMisfit, parts);
     Seen {
         kind: entries::NONE,
@@ -467,7 +466,7 @@ fn related(front: &[u16], n: Node, names: &mut [Kind], sizes: &[u16]) -> Seen
 {
     let v = term(front, names, sizes);
     let s = two_terms(&front[..v.start], names, sizes);
-    let parts = lesser_of(s.fault, v.fault);
+    let parts = s.fault.lesser(v.fault);
     let fault = judge(
         related_fits(s.first, s.second, v.kind),
         n.place,

@@ -21,4 +21,4 @@ returns c =
     let d = c.args.r.now.third.now in
     let cut = (rw c.in_ok-code.was at c.get.ensures.lookup).0 in
     let is : c.in_ok-code.code.now ≡ take c.args.end c.args.nodes.now = cut.2 ∙ ap (λ (n : ℕ). take n c.args.nodes.now) (omega arith) in
-    context-seen c.args.nodes.now a b s d c.args.end c.args.bounds.now _ _ _ c.pred-p.result c.mark_all.ensures (pred-at front (rw is at c.pred-p.ensures)) c.mark_all-2.ensures
+    rw c.get-2.ensures (context-seen c.args.nodes.now a b s d c.args.end c.args.bounds.now _ _ _ c.pred-p.result c.mark_all.ensures (pred-at front (rw is at c.pred-p.ensures)) c.mark_all-2.ensures)

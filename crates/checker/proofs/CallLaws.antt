@@ -113,14 +113,22 @@ module _ {b text table rows firsts groups labels : List ℕ} {mark place operati
     | inr (inr e) ↦ absurd (f e)
   ]
 
-  -- the verdict of a mark that speaks of no obligation
-  pub verdict-told : (mark ≡ 3 → ⊥) → {a : Answer} → a ≡ told_by mark → Responds b verdict b [] a
+  -- the answer by a mark that speaks of no obligation
+  pub verdict-answered : (mark ≡ 3 → ⊥) → {a : Answer} → a ≡ told_by mark → Responds b verdict b [] a
   unfolding verdict_marked
-  verdict-told f t = elim (one-of all place mark o.fits) [
+  verdict-answered f t = elim (one-of all place mark o.fits) [
     | inl e ↦ subst (λ (k : Answer). Responds b verdict b [] k) (sym (t ∙ ap told_by e)) (verdict-as e)
     | inr (inl e) ↦ subst (λ (k : Answer). Responds b verdict b [] k) (sym (t ∙ ap told_by e)) (verdict-as e)
     | inr (inr e) ↦ absurd (f e)
   ]
+
+  -- the verdict of a mark that speaks of no obligation
+  pub verdict-told : (v : code.Verdict) → (mark ≡ 1 → verdict_of v ≡ unfinished) × (mark ≡ 2 → verdict_of v ≡ accepted) × (mark ≡ 3 → ⊥) → Responds b verdict b [] (verdict_is (verdict_of v))
+  verdict-told v t = verdict-answered t.2 (elim (one-of all place mark o.fits) [
+    | inl e ↦ ap verdict_is (t.0 e) ∙ sym (ap told_by e)
+    | inr (inl e) ↦ ap verdict_is (t.1 e) ∙ sym (ap told_by e)
+    | inr (inr e) ↦ absurd (t.2 e)
+  ])
 
 -- what the bytes were opened as, by what `ok_or` makes of it; and where nothing is held, the refusal of it
 module _ {b table rows firsts groups labels : List ℕ} {r : Option opened.Opened} {x : Result opened.Opened name.Refusal} (h : Opens b table rows firsts groups labels r) (e : r ≡ result_ok x) where

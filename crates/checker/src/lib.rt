@@ -12,7 +12,7 @@ ghost use Rattle.checker.specs.OpenPromises.{Opens, LastAsked, LastWritten};
 
 use held_checks::{
     HELD, LoadRefusal, Mark, TEXT, Verdict, clear, come_to, fits, laid, lay, length_in, mark_in,
-    obligation_of, place_in, told,
+    obligation_of, place_in, told_of_byte,
 };
 use labels::Names;
 use part_places::{find, total};
@@ -106,7 +106,7 @@ pub fn verdict(held: &[u8; HELD]) -> Result<Verdict, Refusal>
     let mut a = Arrays::new();
     let o = open_bytes(held, &mut a).ok_or(Refusal::NothingHeld)?;
     if o.mark != Mark::Refuted {
-        return told(o.mark.into());
+        return told_of_byte(o.mark.into());
     }
     let d = a.dossier(o.operations);
     let f = find(&d, o.place - 1);

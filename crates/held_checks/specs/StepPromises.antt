@@ -3,9 +3,10 @@ use Rattle.std.specs.Prelude.{◌≡◌, Bool, cond, ℕ, ◌+◌, ◌*◌, eqb,
 use Rattle.obligations.specs.Order.{initialisation, applicability, correctness}
 use Rattle.obligations.specs.Calls.{unfinished, accepted}
 use Rattle.held_checks.specs.declared.Obligation.{Obligation}
+use Rattle.held_checks.specs.declared.Verdict.{Verdict}
 use Rattle.held_checks.specs.declared.Mark.{Mark}
 use Rattle.held_checks.specs.declared.Mark.TheVariants.{Unfinished, Accepted, Refuted}
-use Rattle.held_checks.specs.Answers.{Answer, refused, verdict_is, obligation_is}
+use Rattle.held_checks.specs.Answers.{Answer, refused, verdict_is, obligation_is, verdict_of}
 
 -- the byte of a mark
 abbrev pub mark_byte : Mark → ℕ
@@ -30,6 +31,11 @@ place_after failed at = cond failed (at + 1) at
 -- the mark there
 abbrev pub mark_after : (failed : Bool) (all place : ℕ) → ℕ
 mark_after failed all place = cond failed 3 (cond (leb all place) 2 1)
+
+-- the verdict of a mark; that of 3 speaks of an obligation
+abbrev pub Tells : (mark : ℕ) → Option Verdict → Type 0
+Tells m (Some v) = (m ≡ 1 → verdict_of v ≡ unfinished) × (m ≡ 2 → verdict_of v ≡ accepted) × (m ≡ 3 → ⊥)
+Tells m None = m ≡ 3
 
 -- the answer of verdict by the mark, where it is not that of a refuted check
 abbrev pub told_by : (mark : ℕ) → Answer

@@ -10,10 +10,13 @@ ghost use Rattle.held_checks.specs.HeldBytes.{little_endian, from_bytes, bytes_o
 ghost use Rattle.held_checks.specs.Answers.{verdict_answer};
 ghost use Rattle.held_checks.specs.BytePromises.{all_zero, Turned};
 ghost use Rattle.held_checks.specs.declared.LoadRefusal.TheVariants.{Faulty};
-ghost use Rattle.held_checks.specs.StepPromises.{Marks, mark_byte, told_by, place_after, mark_after, PartTold};
+ghost use Rattle.held_checks.specs.StepPromises.{Marks, mark_byte, Tells, told_by, place_after, mark_after, PartTold};
 
 use lexical::bounds::TEXT_BYTES;
 use refusals::{Fault, Refusal};
+
+#[cfg(test)]
+mod tests;
 
 const MARK: usize = 0;
 
@@ -247,8 +250,18 @@ pub fn come_to(
     place - from
 }
 
+// The verdict of a mark, where it speaks of no obligation.
+pub fn told(mark: Mark) -> Option<Verdict>
+    ensures { Tells (mark_byte mark) result }
+{
+    match mark {
+        Mark::Unfinished | Mark::Accepted => told_of_byte(mark.into()).ok(),
+        Mark::Refuted => None,
+    }
+}
+
 // What the call for the verdict answers by the byte of the mark, where it speaks of no obligation.
-pub fn told(mark: u8) -> Result<Verdict, Refusal>
+pub fn told_of_byte(mark: u8) -> Result<Verdict, Refusal>
     ensures { verdict_answer result ≡ told_by mark }
 {
     match mark {

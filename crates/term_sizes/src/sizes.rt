@@ -13,7 +13,7 @@ use lexical::bounds::{COUNT_SIZE, LARGEST_NUMBER, LARGEST_SIZE};
 use refusals::Refusal;
 use type_rules::Node;
 use type_rules::faults::LeastFault;
-use type_rules::kinds::{judge, last_node, look, put};
+use type_rules::kinds::{judge_least, last_node, look, put};
 
 // Prefixes and operators by the code of their symbol. What is not a number has the size 0.
 fn prefix_bound(o: u16, a: u32) -> u32
@@ -185,7 +185,7 @@ fn operated(front: &[u16], n: Node, bounds: &mut [u16]) -> Sized
     let t = term(&front[..u.start], bounds);
     let m = operator_bound(n.a, t.bound, u.bound);
     let parts = t.fault.lesser(u.fault);
-    let fault = judge(m <= LARGEST_SIZE, n.place, Refusal::LargeSize, parts);
+    let fault = judge_least(m <= LARGEST_SIZE, n.place, Refusal::LargeSize, parts);
     Sized {
         bound: m.min(LARGEST_SIZE) as u32,
         fault,

@@ -62,7 +62,7 @@ pub fn shared_kind(k: Kind, l: Kind) -> Kind
 }
 
 // The fault at a place, unless all is well.
-// Form 7: `ok` is what a rule says; without this function each of its 11 calls would say `(!..).then_some(Fault { .. })` itself.
+// Form 7: `ok` is what a rule says; without this function each of its 13 calls would say `(!..).then_some(Fault { .. })` itself.
 pub fn unless(ok: bool, place: usize, refusal: Refusal) -> Option<Fault>
     ensures { fault_key result ≡ unless_key ok (key place (number_of (refusal_is refusal))) }
 {
@@ -86,16 +86,34 @@ pub fn all_well(fault: Option<Fault>) -> Result<(), Fault>
     fault.map_or(Ok(()), Err)
 }
 
-// A whole at the place i with the fault `parts` in its parts.
+// A whole at the place i with the fault `parts` in its parts, of any places.
+// Form 2: `judge_least` is the same of faults whose keys have 32 bits; the walks over nodes take that one, since it is faster there.
+// Form 7: as `judge_least`.
+pub fn judge(fits: bool, i: u16, refusal: Refusal, parts: Option<Fault>) -> Option<Fault>
+    ensures { fault_key result ≡ judged_key fits (key i (number_of (refusal_is refusal))) (fault_key parts) }
+{
+    parts.or(unless(fits, usize::from(i), refusal))
+}
+
+// The same of least faults.
 // Form 7: as a closure, `fits` would be written `|| ..` at each of the seven calls, and the promise here would want a type parameter, and a clause that it may be run.
-pub fn judge(fits: bool, i: u16, refusal: Refusal, parts: LeastFault) -> LeastFault
+pub fn judge_least(fits: bool, i: u16, refusal: Refusal, parts: LeastFault) -> LeastFault
     ensures { fault_key result ≡ judged_key fits (key i (number_of (refusal_is refusal))) (fault_key parts) }
 {
     parts.or(LeastFault::unless(fits, u32::from(i), refusal))
 }
 
 // The fault of a bound name, where it stands behind the symbol i: `old` is what it was, `over` the fault of what it is bound over, `body` that of its reach.
-pub fn bound_fault(i: u16, old: Kind, over: LeastFault, body: LeastFault) -> LeastFault
+// Form 2: as `judge`.
+pub fn bound_fault(i: u16, old: Kind, over: Option<Fault>, body: Option<Fault>) -> Option<Fault>
+    ensures { fault_key result ≡ inside_key (lesser (unless_key (is_free old) (key (i + 1) 8)) (fault_key over)) (fault_key body) }
+{
+    let here = unless(old.is_free(), usize::from(i) + 1, Refusal::NameInUse);
+    lesser_of(here, over).or(body)
+}
+
+// The same of least faults.
+pub fn bound_least_fault(i: u16, old: Kind, over: LeastFault, body: LeastFault) -> LeastFault
     ensures { fault_key result ≡ inside_key (lesser (unless_key (is_free old) (key (i + 1) 8)) (fault_key over)) (fault_key body) }
 {
     let here = LeastFault::unless(old.is_free(), u32::from(i) + 1, Refusal::NameInUse);

@@ -7,6 +7,8 @@ use crate::faults::LeastFault;
 pub mod entries;
 pub mod faults;
 pub mod kinds;
+#[cfg(test)]
+mod tests;
 
 // The type of a tree, its least fault, with the place by symbols, and where its nodes begin.
 #[derive(Clone, Copy)]

@@ -14,8 +14,8 @@ use refusals::Refusal;
 use type_rules::entries::Kind;
 use type_rules::faults::LeastFault;
 use type_rules::kinds::{
-    bound_fault, brace_fault, entry, judge, last_node, member_fits, pairs_fault, put, range_fits,
-    related_fits, shared_kind,
+    bound_least_fault, brace_fault, entry, judge_least, last_node, member_fits, pairs_fault, put,
+    range_fits, related_fits, shared_kind,
 };
 use type_rules::{Node, Seen, entries};
 
@@ -179,11 +179,11 @@ struct Sides {
 
 impl Sides {
     // A whole of this type at the node n, where the two fit.
-    // Form 7: `fits` is what a test of the two types says, as in `judge`; as a closure it would be written `|| ..` at each of the three calls.
+    // Form 7: `fits` is what a test of the two types says, as in `judge_least`; as a closure it would be written `|| ..` at each of the three calls.
     fn whole(self, kind: Kind, fits: bool, n: Node) -> Seen
         ensures { Saw result kind (judged_key fits (key n.place 10) (fault_key self.fault)) self.start }
     {
-        let fault = judge(fits, n.place, Refusal::TypesMisfit, self.fault);
+        let fault = judge_least(fits, n.place, Refusal::TypesMisfit, self.fault);
         Seen {
             kind,
             fault,
@@ -214,7 +214,7 @@ fn prefixed(front: &[u16], n: Node, names: &mut [Kind], sizes: &[u16]) -> Seen
     ensures { TermSeen (ended front.now 3 n) (length front.now + 4) names.old names.new sizes.now result }
 {
     let t = term(front, names, sizes);
-    let fault = judge(
+    let fault = judge_least(
         prefix_fits(n.a, t.kind),
         n.place,
         Refusal::TypesMisfit,
@@ -238,7 +238,7 @@ fn divided(front: &[u16], n: Node, names: &mut [Kind], sizes: &[u16]) -> Seen
         u32::from(n.place) + 1 + u32::from(n.b % shapes::REMAINDER),
         Refusal::ZeroDivisor,
     );
-    let fault = judge(
+    let fault = judge_least(
         t.kind.is_number(),
         n.place,
         Refusal::TypesMisfit,
@@ -284,7 +284,7 @@ fn bound(front: &[u16], n: Node, names: &mut [Kind], sizes: &[u16]) -> Seen
     put(names, x, d.kind);
     let p = pred(&front[..d.start], names, sizes);
     put(names, x, was);
-    let fault = bound_fault(n.place, was, d.fault, p.fault);
+    let fault = bound_least_fault(n.place, was, d.fault, p.fault);
     Seen {
         kind: d.kind,
         fault,
@@ -298,7 +298,7 @@ fn listed(front: &[u16], n: Node, names: &mut [Kind], sizes: &[u16]) -> Seen
     ensures { TermSeen (ended front.now 7 n) (length front.now + 4) names.old names.new sizes.now result }
 {
     let t = items(front, names, sizes);
-    let fault = judge(t.kind.is_element(), n.place, Refusal::TypesMisfit, t.fault);
+    let fault = judge_least(t.kind.is_element(), n.place, Refusal::TypesMisfit, t.fault);
     Seen {
         kind: t.kind.set_of(),
         fault,
@@ -451,7 +451,7 @@ fn within(front: &[u16], n: Node, names: &mut [Kind], sizes: &[u16]) -> Seen
     let d = domain(front, names);
     let t = term(&front[..d.start], names, sizes);
     let parts = t.fault.lesser(d.fault);
-    let fault = judge(t.kind.is_number(), n.place, Refusal::TypesMisfit, parts);
+    let fault = judge_least(t.kind.is_number(), n.place, Refusal::TypesMisfit, parts);
     Seen {
         kind: entries::NONE,
         fault,
@@ -467,7 +467,7 @@ fn related(front: &[u16], n: Node, names: &mut [Kind], sizes: &[u16]) -> Seen
     let v = term(front, names, sizes);
     let s = two_terms(&front[..v.start], names, sizes);
     let parts = s.fault.lesser(v.fault);
-    let fault = judge(
+    let fault = judge_least(
         related_fits(s.first, s.second, v.kind),
         n.place,
         Refusal::TypesMisfit,

@@ -4,7 +4,7 @@ use Rattle.held_checks.specs.declared.Mark.TheVariants.{Refuted}
 use Rattle.held_checks.specs.StepPromises.{told_by}
 use Rattle.checker.proofs.OpenLaws.{opened_lent}
 use Rattle.checker.proofs.MarkLaws.{is-mark, other-mark}
-use Rattle.checker.proofs.CallLaws.{nothing-verdict, opened-as, opened-not, refused-as, verdict-told}
+use Rattle.checker.proofs.CallLaws.{nothing-verdict, opened-as, opened-not, refused-as, verdict-answered}
 use Rattle.checker.proofs.RefutedLaws.{last-asked, last-place, verdict-refuted}
 use Rattle.checker.proofs.verdict.Goals as goal
 
@@ -15,8 +15,8 @@ returns-in_err-o c =
 
 pub returns-then-ne : goal.returns-then-ne
 returns-then-ne c =
-    verdict-told (opened-as c.open_bytes.ensures c.ok_or.ensures.ok_part c.in_ok-o.was) (other-mark c.in_ok-o.o.mark Refuted c.ne.ensures c.if-ne.true)
-    (c.told.ensures ∙ ap told_by c.into.ensures)
+    verdict-answered (opened-as c.open_bytes.ensures c.ok_or.ensures.ok_part c.in_ok-o.was) (other-mark c.in_ok-o.o.mark Refuted c.ne.ensures c.if-ne.true)
+    (c.told_of_byte.ensures ∙ ap told_by c.into.ensures)
 
 pub overflow_sub-o : goal.overflow_sub-o
 overflow_sub-o c = (last-asked (opened-as c.open_bytes.ensures c.ok_or.ensures.ok_part c.in_ok-o.was) (is-mark c.in_ok-o.o.mark Refuted c.ne.ensures c.if-ne.false)).positive

@@ -31,7 +31,7 @@ items-returns t c = items-also c.args.code.now (length c.args.code.now) (omega a
 
 pub operated-returns : goal.operated-returns
 unfolding number_of
-operated-returns t c = term-binary c.args.bounds.now _ _ c.term-t.result c.term-u.result _ c.operator_bound-m.result (fault_key c.lesser-parts.result) (ended-in c.args.front.now 5 c.args.n) (term-at (before c.args.front.now _) c.term-u.ensures) (term-at (behind c.args.front.now _ c.term-u.ensures.falls) c.term-t.ensures) c.operator_bound-m.ensures c.lesser-parts.ensures c.judge-fault.ensures c.min.ensures refl
+operated-returns t c = term-binary c.args.bounds.now _ _ c.term-t.result c.term-u.result _ c.operator_bound-m.result (fault_key c.lesser-parts.result) (ended-in c.args.front.now 5 c.args.n) (term-at (before c.args.front.now _) c.term-u.ensures) (term-at (behind c.args.front.now _ c.term-u.ensures.falls) c.term-t.ensures) c.operator_bound-m.ensures c.lesser-parts.ensures c.judge_least-fault.ensures c.min.ensures refl
 
 pub pair-returns : goal.pair-returns
 pair-returns t c = pair-sized c.args.code.now (length c.args.code.now) (omega arith) c.args.bounds.now _ _ c.term-t.result c.term-u.result _ c.term-u.ensures (term-at front c.term-t.ensures) c.both.ensures.0 c.both.ensures.1 c.both.ensures.2

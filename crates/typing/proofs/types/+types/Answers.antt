@@ -14,7 +14,7 @@ use Rattle.typing.proofs.TypeWalkPreds.{pred_constant, pred-negation, pred-conne
 use Rattle.typing.proofs.types.+types.Goals as goal
 
 pub bound-returns : goal.bound-returns
-bound-returns t c = bound-seen c.args.front.now (length c.args.front.now) (omega arith) c.args.names.now c.args.sizes.now _ _ _ c.args.n c.domain-d.result c.pred-p.result _ c.from-x.result c.entry-was.result c.domain-d.ensures (pred-at front c.pred-p.ensures) c.put.ensures c.put-2.ensures c.from-x.ensures c.entry-was.ensures refl refl c.bound_fault-fault.ensures
+bound-returns t c = bound-seen c.args.front.now (length c.args.front.now) (omega arith) c.args.names.now c.args.sizes.now _ _ _ c.args.n c.domain-d.result c.pred-p.result _ c.from-x.result c.entry-was.result c.domain-d.ensures (pred-at front c.pred-p.ensures) c.put.ensures c.put-2.ensures c.from-x.ensures c.entry-was.ensures refl refl c.bound_least_fault-fault.ensures
 
 pub compared-returns : goal.compared-returns
 compared-returns t c = pred-compared c.args.names.now c.args.sizes.now _ c.two_terms-s.result _ c.comparison_fits-fits.result (ended-in c.args.front.now 4 c.args.n) (sides-at (before c.args.front.now _) c.two_terms-s.ensures) c.comparison_fits-fits.ensures c.whole.ensures.kind_is c.whole.ensures.start_is c.whole.ensures.fault_is
@@ -24,7 +24,7 @@ connected-returns t c n = pred-connected c.args.names.now c.args.sizes.now _ _ c
 
 pub divided-returns : goal.divided-returns
 unfolding number_of
-divided-returns t c = term-divided c.args.names.now c.args.sizes.now _ c.term-t.result _ c.from.result c.from-2.result (fault_key c.unless-zero.result) (fault_key c.lesser.result) (ended-in c.args.front.now 4 c.args.n) (term-at (before c.args.front.now _) c.term-t.ensures) c.from.ensures c.from-2.ensures c.unless-zero.ensures c.lesser.ensures refl refl (c.judge-fault.ensures ∙ ap (λ (b : Bool). judged_key b (key c.args.n.place 10) (fault_key c.lesser.result)) c.is_number.ensures)
+divided-returns t c = term-divided c.args.names.now c.args.sizes.now _ c.term-t.result _ c.from.result c.from-2.result (fault_key c.unless-zero.result) (fault_key c.lesser.result) (ended-in c.args.front.now 4 c.args.n) (term-at (before c.args.front.now _) c.term-t.ensures) c.from.ensures c.from-2.ensures c.unless-zero.ensures c.lesser.ensures refl refl (c.judge_least-fault.ensures ∙ ap (λ (b : Bool). judged_key b (key c.args.n.place 10) (fault_key c.lesser.result)) c.is_number.ensures)
 
 pub items-returns-in_default : goal.items-returns-in_default
 items-returns-in_default t c = items-short c.args.code.now (length c.args.code.now) (omega arith) c.args.names.now c.args.sizes.now _ c.nothing.ensures (let n = c.in_default.ensures in omega arith)
@@ -40,7 +40,7 @@ joined-returns t c = term-binary c.args.names.now c.args.sizes.now _ c.two_terms
 
 pub listed-returns : goal.listed-returns
 unfolding number_of
-listed-returns t c = term-listed c.args.names.now c.args.sizes.now _ c.items-t.result _ c.is_element.result (ended-in c.args.front.now 7 c.args.n) (items-at (before c.args.front.now _) c.items-t.ensures) c.is_element.ensures c.set_of.ensures refl c.judge-fault.ensures
+listed-returns t c = term-listed c.args.names.now c.args.sizes.now _ c.items-t.result _ c.is_element.result (ended-in c.args.front.now 7 c.args.n) (items-at (before c.args.front.now _) c.items-t.ensures) c.is_element.ensures c.set_of.ensures refl c.judge_least-fault.ensures
 
 pub member-returns : goal.member-returns
 member-returns t c = pred-member c.args.names.now c.args.sizes.now _ c.two_terms-s.result _ c.member_fits-fits.result (ended-in c.args.front.now 5 c.args.n) (sides-at (before c.args.front.now _) c.two_terms-s.ensures) c.member_fits-fits.ensures c.whole.ensures.kind_is c.whole.ensures.start_is c.whole.ensures.fault_is
@@ -98,14 +98,14 @@ pred-returns-in_default-code t c = pred-rest c.args.code.now (length c.args.code
 
 pub prefixed-returns : goal.prefixed-returns
 unfolding number_of
-prefixed-returns t c = term-prefix c.args.names.now c.args.sizes.now _ c.term-t.result _ c.prefix_fits.result (ended-in c.args.front.now 3 c.args.n) (term-at (before c.args.front.now _) c.term-t.ensures) c.prefix_fits.ensures c.prefix_type.ensures refl c.judge-fault.ensures
+prefixed-returns t c = term-prefix c.args.names.now c.args.sizes.now _ c.term-t.result _ c.prefix_fits.result (ended-in c.args.front.now 3 c.args.n) (term-at (before c.args.front.now _) c.term-t.ensures) c.prefix_fits.ensures c.prefix_type.ensures refl c.judge_least-fault.ensures
 
 pub quantified-returns : goal.quantified-returns
 quantified-returns t c = pred-quantified c.args.names.now c.args.sizes.now _ c.bound-b.result _ (ended-in c.args.front.now 8 c.args.n) (bound-at (before c.args.front.now _) c.bound-b.ensures) refl refl refl
 
 pub related-returns : goal.related-returns
 unfolding number_of
-related-returns t c = pred-related c.args.names.now c.args.sizes.now _ _ c.two_terms-s.result c.term-v.result _ c.related_fits.result (fault_key c.lesser-parts.result) (ended-in c.args.front.now 7 c.args.n) (term-at (before c.args.front.now _) c.term-v.ensures) (sides-at (behind c.args.front.now _ c.term-v.ensures.falls) c.two_terms-s.ensures) c.related_fits.ensures c.lesser-parts.ensures refl refl c.judge-fault.ensures
+related-returns t c = pred-related c.args.names.now c.args.sizes.now _ _ c.two_terms-s.result c.term-v.result _ c.related_fits.result (fault_key c.lesser-parts.result) (ended-in c.args.front.now 7 c.args.n) (term-at (before c.args.front.now _) c.term-v.ensures) (sides-at (behind c.args.front.now _ c.term-v.ensures.falls) c.two_terms-s.ensures) c.related_fits.ensures c.lesser-parts.ensures refl refl c.judge_least-fault.ensures
 
 pub such-returns : goal.such-returns
 such-returns t c = term-such c.args.names.now c.args.sizes.now _ c.bound-b.result _ (ended-in c.args.front.now 6 c.args.n) (bound-at (before c.args.front.now _) c.bound-b.ensures) c.set_of.ensures refl refl
@@ -148,4 +148,4 @@ term-returns-in_default-code t c = term-rest c.args.code.now (length c.args.code
 
 pub within-returns : goal.within-returns
 unfolding number_of
-within-returns t c = pred-within c.args.names.now c.args.sizes.now _ c.term-t.result c.domain-d.result _ (fault_key c.lesser-parts.result) (ended-in c.args.front.now 6 c.args.n) (domain-at (before c.args.front.now _) c.domain-d.ensures) (term-at (behind c.args.front.now _ c.domain-d.ensures.falls) c.term-t.ensures) c.lesser-parts.ensures refl refl (c.judge-fault.ensures ∙ ap (λ (b : Bool). judged_key b (key c.args.n.place 10) (fault_key c.lesser-parts.result)) c.is_number.ensures)
+within-returns t c = pred-within c.args.names.now c.args.sizes.now _ c.term-t.result c.domain-d.result _ (fault_key c.lesser-parts.result) (ended-in c.args.front.now 6 c.args.n) (domain-at (before c.args.front.now _) c.domain-d.ensures) (term-at (behind c.args.front.now _ c.domain-d.ensures.falls) c.term-t.ensures) c.lesser-parts.ensures refl refl (c.judge_least-fault.ensures ∙ ap (λ (b : Bool). judged_key b (key c.args.n.place 10) (fault_key c.lesser-parts.result)) c.is_number.ensures)

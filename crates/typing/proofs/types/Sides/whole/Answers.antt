@@ -5,4 +5,4 @@ use Rattle.typing.proofs.types.Sides.whole.Goals as goal
 
 pub returns : goal.returns
 unfolding number_of
-returns c = record { kind_is = refl; fault_is = c.judge-fault.ensures; start_is = refl }
+returns c = record { kind_is = refl; fault_is = c.judge_least-fault.ensures; start_is = refl }

@@ -1,9 +1,9 @@
-// The verdict by a mark, which no program asks for.
+// `told`, which no program calls.
 use crate::{Mark, Verdict, told};
 
 // A number for each verdict.
-fn number(told: Option<Verdict>) -> Option<u8> {
-    match told? {
+fn number(verdict: Option<Verdict>) -> Option<u8> {
+    match verdict? {
         Verdict::Unfinished => Some(0),
         Verdict::Accepted => Some(1),
         Verdict::Refuted(_) => Some(2),

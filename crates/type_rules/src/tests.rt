@@ -1,4 +1,4 @@
-// Faults at any place, also where no key of 32 bits is: what the walks do not call.
+// `judge` and `bound_fault`, which no crate calls: faults at any place, also at those that no `LeastFault` has.
 use crate::entries::{FREE, NUMBER};
 use crate::kinds::{bound_fault, judge};
 use refusals::{Fault, Refusal};
